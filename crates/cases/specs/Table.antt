@@ -1,0 +1,53 @@
+-- The starred cases of the scope (01, 'Trials at the mill'), one table under one theorem that the checker computes. Assumes nothing.
+use mathlib.Core.Path.{_≡_, refl}
+use mathlib.Core.Bool.{Bool, true, false, not, _&&_}
+use mathlib.Core.List.{List, [], _∷_}
+use Prim.Native.Nat.{ℕ}
+use Rattle.masks.specs.Tests.{allBelow, someBelow}
+use Rattle.masks.specs.Bits.{bit}
+use Rattle.masks.specs.Masks.{maskOf, keepIn, keepBits, someIn, someBit, countIn, countBits}
+use Rattle.masks.specs.Sets.{only, count, same}
+use Rattle.masks.specs.Settings.{cut, empty, someEmpty}
+use Rattle.consistency.specs.Largest.{sweep, sweeps, largest}
+use Rattle.consistency.specs.Problem.{Problem, allFields}
+use Rattle.consistency.specs.Closing.{partner, supportedBy, supported, closing}
+use Rattle.consistency.specs.Neighbourhood.{widen, fieldsWithin, neighbourhood}
+use Rattle.consistency.specs.Offers.{noneEmpty, passes, offers, wipedOut}
+use Rattle.cases.specs.Problems.{allDifferent, ring}
+
+pub data Case : Type 0 where
+  -- a problem, a reach, a set; its closing over every field, its offers, and whether it is wiped out
+  consistency : Problem → ℕ → List ℕ → List ℕ → List ℕ → Bool → Case
+
+-- two answers are the same
+agree : Bool → Bool → Bool
+agree true b = b
+agree false b = not b
+
+-- It opens all that it computes with, so a theorem says `unfolding allHold` and no more.
+unfoldable pub holds : Case → Bool
+unfolding agree wipedOut offers passes noneEmpty neighbourhood fieldsWithin widen allFields closing supported supportedBy partner largest sweeps sweep someEmpty empty cut same count only countBits countIn someBit someIn keepBits keepIn maskOf bit someBelow allBelow
+holds (consistency P k S closed offered wiped) =
+    same (closing P (allFields P) S) closed && same (offers P k S) offered && agree (wipedOut P k S) wiped
+
+unfoldable pub allHold : List Case → Bool
+unfolding holds
+allHold [] = true
+allHold (c ∷ cs) = holds c && allHold cs
+
+abbrev pub table : List Case
+table =
+    -- three fields {1, 2}, all pairs: closing keeps all, and reach 1 and 24 wipe out
+    consistency (allDifferent 3 3) 1 (3 ∷ 3 ∷ 3 ∷ []) (3 ∷ 3 ∷ 3 ∷ []) (0 ∷ 0 ∷ 0 ∷ []) true
+    ∷ consistency (allDifferent 3 3) 24 (3 ∷ 3 ∷ 3 ∷ []) (3 ∷ 3 ∷ 3 ∷ []) (0 ∷ 0 ∷ 0 ∷ []) true
+    -- five such fields in a ring: reach 1 keeps all, reach 2 wipes out
+    ∷ consistency (ring 5) 1 (3 ∷ 3 ∷ 3 ∷ 3 ∷ 3 ∷ []) (3 ∷ 3 ∷ 3 ∷ 3 ∷ 3 ∷ []) (3 ∷ 3 ∷ 3 ∷ 3 ∷ 3 ∷ []) false
+    ∷ consistency (ring 5) 2 (3 ∷ 3 ∷ 3 ∷ 3 ∷ 3 ∷ []) (3 ∷ 3 ∷ 3 ∷ 3 ∷ 3 ∷ []) (0 ∷ 0 ∷ 0 ∷ 0 ∷ 0 ∷ []) true
+    -- the three fields and a fourth with no rule, reach 1: some field is empty
+    ∷ consistency (allDifferent 3 4) 1 (3 ∷ 3 ∷ 3 ∷ 3 ∷ []) (3 ∷ 3 ∷ 3 ∷ 3 ∷ []) (0 ∷ 0 ∷ 0 ∷ 3 ∷ []) true
+    ∷ []
+
+-- THE THEOREM: every case of the table holds.
+pub cases-hold : allHold table ≡ true
+unfolding allHold
+cases-hold = refl

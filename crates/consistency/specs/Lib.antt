@@ -1,0 +1,9 @@
+pub mod Largest
+pub mod Runs
+pub mod Problem
+pub mod Closing
+pub mod Neighbourhood
+pub mod Offers
+pub mod Order
+pub mod SetUps
+pub mod Padding

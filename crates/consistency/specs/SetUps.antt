@@ -1,0 +1,61 @@
+-- Every setting of a complete set-up is kept, by closing and by the offers. Assumes nothing.
+use mathlib.Core.Path.{_≡_, refl, sym, ap, _∙_}
+use mathlib.Core.Bool.{Bool, true, false, _&&_}
+use mathlib.Core.List.{List}
+use Prim.Native.Nat.{ℕ, _<_}
+use lib.Dec.{eqb, ltb}
+use borrow.Author.Tests.{eqb-true, eq-eqb, ltb-true, lt-ltb}
+use Rattle.masks.specs.Tests.{never, not-so, and-l, and-r, and-by}
+use Rattle.masks.specs.Sets.{has, _⊆_, only, only-⊆, only-at, only-by}
+use Rattle.masks.specs.Settings.{cut-by, empty, empty-at}
+use Rattle.consistency.specs.Problem.{Problem, SetUp}
+use Rattle.consistency.specs.Closing.{Closed, closing, closing-is}
+use Rattle.consistency.specs.Offers.{EachPasses, witness-by, offers, offers-is, wipedOut, wipedOut-at}
+
+module _ (P : Problem) (S : List ℕ) (a : ℕ → ℕ) (up : SetUp P S a) where
+  chosen : ℕ → ℕ → Bool
+  chosen f v = ltb f (P .fields) && eqb v (a f)
+
+  -- the set-up as a set
+  picked : List ℕ
+  picked = only chosen S
+
+  picked-⊆ : picked ⊆ S
+  unfolding picked
+  picked-⊆ = only-⊆ chosen S
+
+  picked-by : (f : ℕ) → f < P .fields → has picked f (a f) ≡ true
+  unfolding picked chosen
+  picked-by f h = only-by chosen S f (a f) (up .inside f h) (and-by _ _ (lt-ltb f (P .fields) h) (eq-eqb (a f) (a f) refl))
+
+  picked-at : (f v : ℕ) → has picked f v ≡ true → (f < P .fields) × (v ≡ a f)
+  unfolding picked chosen
+  picked-at f v e =
+      let q = only-at chosen S f v e in
+      (ltb-true f (P .fields) (and-l _ _ q), eqb-true v (a f) (and-r (ltb f (P .fields)) _ q))
+
+  picked-closed : (W : ℕ) → Closed P W picked
+  picked-closed W f v e i g j k =
+      let q = picked-at f v e in
+      (a g, picked-by g (j .0), rw (q .1) (up .agrees f g (i .0) (j .0) k))
+
+  picked-passes : (k : ℕ) → EachPasses P k picked
+  picked-passes k f v e =
+      witness-by P k picked f v picked (record {
+        inside = λ g u h. cut-by picked f v g u h (λ q. picked-at g u h .1 ∙ ap a q ∙ sym (picked-at f v e .1));
+        shut = picked-closed _;
+        full = λ g i. not-so (empty picked g) (λ z. never (picked-by g (i .0)) (empty-at picked g (a g) z));
+      })
+
+  pub set-up-closing : (W f : ℕ) → f < P .fields → has (closing P W S) f (a f) ≡ true
+  set-up-closing W f h = closing-is P W S .most picked picked-⊆ (picked-closed W) f (a f) (picked-by f h)
+
+  pub set-up-offered : (k f : ℕ) → f < P .fields → has (offers P k S) f (a f) ≡ true
+  set-up-offered k f h = offers-is P k S .most picked picked-⊆ (picked-passes k) f (a f) (picked-by f h)
+
+  -- so where the set is wiped out there is no complete set-up
+  pub set-up-not-wiped : (k : ℕ) → wipedOut P k S ≡ false
+  set-up-not-wiped k =
+      not-so (wipedOut P k S) (λ e.
+      let w = wipedOut-at P k S e in
+      never (set-up-offered k (w .0) (w .1)) (empty-at (offers P k S) (w .0) (a (w .0)) (w .2)))

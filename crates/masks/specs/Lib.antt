@@ -1,0 +1,6 @@
+pub mod Tests
+pub mod Bits
+pub mod Masks
+pub mod Words
+pub mod Sets
+pub mod Settings
