@@ -12,7 +12,7 @@ use Rattle.consistency.specs.Largest.{sweep, sweeps, largest}
 use Rattle.consistency.specs.Problem.{Problem, allFields}
 use Rattle.consistency.specs.Closing.{partner, supportedBy, supported, closing}
 use Rattle.consistency.specs.Neighbourhood.{widen, fieldsWithin, neighbourhood}
-use Rattle.consistency.specs.Offers.{noneEmpty, passes, offers, wipedOut}
+use Rattle.consistency.specs.Offers.{noneEmpty, passesOver, passes, offers, wipedOut}
 use Rattle.cases.specs.Problems.{allDifferent, ring}
 
 pub data Case : Type 0 where
@@ -26,7 +26,7 @@ agree false b = not b
 
 -- It opens all that it computes with, so a theorem says `unfolding allHold` and no more.
 unfoldable pub holds : Case → Bool
-unfolding agree wipedOut offers passes noneEmpty neighbourhood fieldsWithin widen allFields closing supported supportedBy partner largest sweeps sweep someEmpty empty cut same count only countBits countIn someBit someIn keepBits keepIn maskOf bit someBelow allBelow
+unfolding agree wipedOut offers passes passesOver noneEmpty neighbourhood fieldsWithin widen allFields closing supported supportedBy partner largest sweeps sweep someEmpty empty cut same count only countBits countIn someBit someIn keepBits keepIn maskOf bit someBelow allBelow
 holds (consistency P k S closed offered wiped) =
     same (closing P (allFields P) S) closed && same (offers P k S) offered && agree (wipedOut P k S) wiped
 

@@ -5,13 +5,13 @@ use mathlib.Core.Logic.{_↔_}
 use mathlib.Core.List.{List}
 use Prim.Native.Nat.{ℕ}
 use lib.Dec.{ltb}
-use lib.ListN.{getD}
+use lib.ListN.{length, getD}
 use borrow.Author.Tests.{ltb-true, lt-ltb}
 use Rattle.masks.specs.Tests.{and-l, and-r, and-by, _⇒_, ⇒-at, ⇒-by, allBelow, allBelow-at, allBelow-by}
 use Rattle.masks.specs.Bits.{bit, Within}
 use Rattle.masks.specs.Masks.{someBit, someBit-at, someBit-by}
 use Rattle.masks.specs.Sets.{has, _⊆_}
-use Rattle.consistency.specs.Largest.{IsLargest, IsLargest-mono, IsLargest-stricter, IsLargest-iff, IsLargest-unique, IsLargest-self, Test, Monotone, AllPass, largest, largest-is}
+use Rattle.consistency.specs.Largest.{IsLargest, IsLargest-mono, IsLargest-stricter, IsLargest-iff, IsLargest-unique, IsLargest-self, IsLargest-between, Test, Monotone, AllPass, largest, largest-is}
 use Rattle.consistency.specs.Problem.{Problem, In}
 
 module _ (P : Problem) where
@@ -23,11 +23,11 @@ module _ (P : Problem) where
   unfoldable pub partner : List ℕ → ℕ → ℕ → ℕ → Bool
   partner S f v g = someBit (getD S g 0) (P .allowed f g v)
 
-  partner-at : (S : List ℕ) (f v g : ℕ) → partner S f v g ≡ true → Partner S f v g
+  pub partner-at : (S : List ℕ) (f v g : ℕ) → partner S f v g ≡ true → Partner S f v g
   unfolding partner has
   partner-at S f v g = someBit-at (getD S g 0) (P .allowed f g v)
 
-  partner-by : (S : List ℕ) (f v g : ℕ) → Partner S f v g → partner S f v g ≡ true
+  pub partner-by : (S : List ℕ) (f v g : ℕ) → Partner S f v g → partner S f v g ≡ true
   unfolding partner has
   partner-by S f v g s = someBit-by (getD S g 0) (P .allowed f g v) (s .0) (s .1) (s .2)
 
@@ -85,6 +85,10 @@ module _ (P : Problem) where
 
   pub closing-mono : (W : ℕ) (S R : List ℕ) → S ⊆ R → closing W S ⊆ closing W R
   closing-mono W S R h = IsLargest-mono (Closed W) S R (closing W S) (closing W R) h (closing-is W S) (closing-is W R)
+
+  -- what lies between a set and its closing has the same closing
+  pub closing-between : (W : ℕ) (S U : List ℕ) → length U ≡ length S → closing W S ⊆ U → U ⊆ S → closing W U ≡ closing W S
+  closing-between W S U e h k = closing-unique W U (closing W S) (IsLargest-between (Closed W) S U (closing W S) e h k (closing-is W S))
 
   -- over more fields it asks more
   pub closed-wider : (W Z : ℕ) → Within W Z → (S : List ℕ) → Closed Z S → Closed W S

@@ -25,12 +25,12 @@ module _ (P : Problem) where
   unfoldable pub noneEmpty : ℕ → List ℕ → Bool
   noneEmpty W S = allBelow (P .fields) (λ g. bit W g ⇒ not (empty S g))
 
-  noneEmpty-at : (W : ℕ) (S : List ℕ) → noneEmpty W S ≡ true → NoneEmpty W S
+  pub noneEmpty-at : (W : ℕ) (S : List ℕ) → noneEmpty W S ≡ true → NoneEmpty W S
   unfolding noneEmpty
   noneEmpty-at W S e g i =
       not-true (empty S g) (⇒-at (bit W g) _ (allBelow-at (P .fields) (λ g. bit W g ⇒ not (empty S g)) e g (i .0)) (i .1))
 
-  noneEmpty-by : (W : ℕ) (S : List ℕ) → NoneEmpty W S → noneEmpty W S ≡ true
+  pub noneEmpty-by : (W : ℕ) (S : List ℕ) → NoneEmpty W S → noneEmpty W S ≡ true
   unfolding noneEmpty
   noneEmpty-by W S h = allBelow-by (P .fields) _ (λ g l. ⇒-by (bit W g) _ (λ w. ap not (h g (l, w))))
 
@@ -40,49 +40,63 @@ module _ (P : Problem) where
       let s = empty-not S g (n g i) in
       not-so (empty R g) (λ e. never (h g (s .0) (s .1)) (empty-at R g (s .0) e))
 
-  -- ---- the test of position v of field f in S, at reach k
+  -- ---- the test of position v of field f in S, over the fields of the mask W
 
-  -- what is left: f cut to v, closed over f's neighbourhood
+  -- what is left: f cut to v, closed over W
   abbrev pub left : ℕ → List ℕ → ℕ → ℕ → List ℕ
-  left k S f v = closing P (neighbourhood P k f) (cut S f v)
+  left W S f v = closing P W (cut S f v)
 
-  -- Passed (01): no neighbourhood field is empty.
-  abbrev pub Passes : ℕ → List ℕ → ℕ → ℕ → Type 0
-  Passes k S f v = NoneEmpty (neighbourhood P k f) (left k S f v)
+  abbrev pub PassesOver : ℕ → List ℕ → ℕ → ℕ → Type 0
+  PassesOver W S f v = NoneEmpty W (left W S f v)
 
   -- the same as a test
+  unfoldable pub passesOver : ℕ → Test
+  passesOver W S f v = noneEmpty W (closing P W (cut S f v))
+
+  pub passesOver-at : (W : ℕ) (S : List ℕ) (f v : ℕ) → passesOver W S f v ≡ true → PassesOver W S f v
+  unfolding passesOver
+  passesOver-at W S f v = noneEmpty-at W (left W S f v)
+
+  pub passesOver-by : (W : ℕ) (S : List ℕ) (f v : ℕ) → PassesOver W S f v → passesOver W S f v ≡ true
+  unfolding passesOver
+  passesOver-by W S f v = noneEmpty-by W (left W S f v)
+
+  -- What shows that a setting passes: a part of the cut set, closed over W, with no field of W empty.
+  pub record Witness (W : ℕ) (S : List ℕ) (f v : ℕ) (R : List ℕ) : Type 0 where
+    pub inside : R ⊆ cut S f v
+    pub shut : Closed P W R
+    pub full : NoneEmpty W R
+
+  pub witness-at : (W : ℕ) (S : List ℕ) (f v : ℕ) → PassesOver W S f v → Witness W S f v (left W S f v)
+  witness-at W S f v p = let c = closing-is P W (cut S f v) in record { inside = c .inside; shut = c .good; full = p }
+
+  pub witness-by : (W : ℕ) (S : List ℕ) (f v : ℕ) (R : List ℕ) → Witness W S f v R → PassesOver W S f v
+  witness-by W S f v R w = noneEmpty-mono W R (left W S f v) (closing-is P W (cut S f v) .most R (w .inside) (w .shut)) (w .full)
+
+  passesOver-mono : (W : ℕ) → Monotone (passesOver W)
+  passesOver-mono W S R h f v e =
+      passesOver-by W R f v
+      (noneEmpty-mono W (left W S f v) (left W R f v) (closing-mono P W (cut S f v) (cut R f v) (cut-mono S R f v h)) (passesOver-at W S f v e))
+
+  -- ---- the test at reach k (01): over f's neighbourhood. Passed when no neighbourhood field is empty.
+
+  abbrev pub Passes : ℕ → List ℕ → ℕ → ℕ → Type 0
+  Passes k S f v = PassesOver (neighbourhood P k f) S f v
+
   unfoldable pub passes : ℕ → Test
-  passes k S f v = let W = neighbourhood P k f in noneEmpty W (closing P W (cut S f v))
+  passes k S f v = let W = neighbourhood P k f in passesOver W S f v
 
   pub passes-at : (k : ℕ) (S : List ℕ) (f v : ℕ) → passes k S f v ≡ true → Passes k S f v
   unfolding passes
-  passes-at k S f v = noneEmpty-at (neighbourhood P k f) (left k S f v)
+  passes-at k S f v = passesOver-at (neighbourhood P k f) S f v
 
   pub passes-by : (k : ℕ) (S : List ℕ) (f v : ℕ) → Passes k S f v → passes k S f v ≡ true
   unfolding passes
-  passes-by k S f v = noneEmpty-by (neighbourhood P k f) (left k S f v)
-
-  -- What shows that a setting passes: a part of the cut set, closed over the neighbourhood, with no field there empty.
-  pub record Witness (k : ℕ) (S : List ℕ) (f v : ℕ) (R : List ℕ) : Type 0 where
-    pub inside : R ⊆ cut S f v
-    pub shut : Closed P (neighbourhood P k f) R
-    pub full : NoneEmpty (neighbourhood P k f) R
-
-  pub witness-at : (k : ℕ) (S : List ℕ) (f v : ℕ) → Passes k S f v → Witness k S f v (left k S f v)
-  witness-at k S f v p =
-      let c = closing-is P (neighbourhood P k f) (cut S f v) in
-      record { inside = c .inside; shut = c .good; full = p }
-
-  pub witness-by : (k : ℕ) (S : List ℕ) (f v : ℕ) (R : List ℕ) → Witness k S f v R → Passes k S f v
-  witness-by k S f v R w =
-      noneEmpty-mono (neighbourhood P k f) R (left k S f v)
-      (closing-is P (neighbourhood P k f) (cut S f v) .most R (w .inside) (w .shut)) (w .full)
+  passes-by k S f v = passesOver-by (neighbourhood P k f) S f v
 
   pub passes-mono : (k : ℕ) → Monotone (passes k)
-  passes-mono k S R h f v e =
-      passes-by k R f v
-      (noneEmpty-mono (neighbourhood P k f) (left k S f v) (left k R f v)
-      (closing-mono P (neighbourhood P k f) (cut S f v) (cut R f v) (cut-mono S R f v h)) (passes-at k S f v e))
+  unfolding passes
+  passes-mono k S R h f v = passesOver-mono (neighbourhood P k f) S R h f v
 
   -- ---- the offers (01): the largest part in which every setting passes its test in that part
 
@@ -145,6 +159,6 @@ module _ (P : Problem) where
   pub offers-wipe : (k : ℕ) (S : List ℕ) (f v g : ℕ) → In P (neighbourhood P k f) g → empty (offers k S) g ≡ true → has (offers k S) f v ≡ false
   offers-wipe k S f v g i z =
       not-so (has (offers k S) f v) (λ e.
-      let w = witness-at k (offers k S) f v (offers-is k S .good f v e) in
-      let s = empty-not (left k (offers k S) f v) g (w .full g i) in
+      let w = witness-at (neighbourhood P k f) (offers k S) f v (offers-is k S .good f v e) in
+      let s = empty-not (left (neighbourhood P k f) (offers k S) f v) g (w .full g i) in
       never (cut-⊆ (offers k S) f v g (s .0) (w .inside g (s .0) (s .1))) (empty-at (offers k S) g (s .0) z))

@@ -17,10 +17,11 @@ module _ (P : Problem) where
 
   pub passing-closed : (k : ℕ) → 1 ≤ k → (S : List ℕ) → EachPasses P k S → Closed P (allFields P) S
   passing-closed k o S p f v e i g j q =
-      let w = witness-at P k S f v (p f v e) in
+      let W = neighbourhood P k f in
+      let w = witness-at P W S f v (p f v e) in
       let self = neighbourhood-self P k f (i .0) in
-      let s = empty-not (left P k S f v) f (w .full f self) in
-      let here : has (left P k S f v) f v ≡ true = ap (λ (y : ℕ). has (left P k S f v) f y) (sym (cut-at S f v (s .0) (w .inside f (s .0) (s .1)))) ∙ s .1 in
+      let s = empty-not (left P W S f v) f (w .full f self) in
+      let here : has (left P W S f v) f v ≡ true = ap (λ (y : ℕ). has (left P W S f v) f y) (sym (cut-at S f v (s .0) (w .inside f (s .0) (s .1)))) ∙ s .1 in
       let c = w .shut f v here self g (neighbourhood-joined P k f g o (i .0) (j .0) q) q in
       (c .0, cut-⊆ S f v g (c .0) (w .inside g (c .0) (c .1)), c .2)
 
@@ -39,11 +40,12 @@ module _ (P : Problem) where
 
   pub passes-nearer : (k : ℕ) (S : List ℕ) (f v : ℕ) → Passes P (suc k) S f v → Passes P k S f v
   passes-nearer k S f v p =
-      let w = witness-at P (suc k) S f v p in
+      let Z = neighbourhood P (suc k) f in
+      let w = witness-at P Z S f v p in
       let n = neighbourhood-more P k f in
-      witness-by P k S f v (left P (suc k) S f v) (record {
+      witness-by P (neighbourhood P k f) S f v (left P Z S f v) (record {
         inside = w .inside;
-        shut = closed-wider P (neighbourhood P k f) (neighbourhood P (suc k) f) n (left P (suc k) S f v) (w .shut);
+        shut = closed-wider P (neighbourhood P k f) Z n (left P Z S f v) (w .shut);
         full = λ g i. w .full g (i .0, n g (i .1));
       })
 

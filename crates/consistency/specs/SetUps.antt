@@ -10,6 +10,7 @@ use Rattle.masks.specs.Sets.{has, _⊆_, only, only-⊆, only-at, only-by}
 use Rattle.masks.specs.Settings.{cut-by, empty, empty-at}
 use Rattle.consistency.specs.Problem.{Problem, SetUp}
 use Rattle.consistency.specs.Closing.{Closed, closing, closing-is}
+use Rattle.consistency.specs.Neighbourhood.{neighbourhood}
 use Rattle.consistency.specs.Offers.{EachPasses, witness-by, offers, offers-is, wipedOut, wipedOut-at}
 
 module _ (P : Problem) (S : List ℕ) (a : ℕ → ℕ) (up : SetUp P S a) where
@@ -41,7 +42,7 @@ module _ (P : Problem) (S : List ℕ) (a : ℕ → ℕ) (up : SetUp P S a) where
 
   picked-passes : (k : ℕ) → EachPasses P k picked
   picked-passes k f v e =
-      witness-by P k picked f v picked (record {
+      witness-by P (neighbourhood P k f) picked f v picked (record {
         inside = λ g u h. cut-by picked f v g u h (λ q. picked-at g u h .1 ∙ ap a q ∙ sym (picked-at f v e .1));
         shut = picked-closed _;
         full = λ g i. not-so (empty picked g) (λ z. never (picked-by g (i .0)) (empty-at picked g (a g) z));

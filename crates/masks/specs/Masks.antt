@@ -2,10 +2,10 @@
 --
 -- `keepBits`, `someBit` and `countBits` go through a number's digits, lowest first, and stop when it has run out, so they have no width.
 -- What may not be wanted is bound by a `let`, which waits.
-use mathlib.Core.Path.{_≡_, sym, ap, _∙_, fun-ext}
+use mathlib.Core.Path.{_≡_, refl, sym, ap, _∙_, fun-ext}
 use mathlib.Core.Logic.{⊎-elim}
 use mathlib.Core.Bool.{Bool, true, false, _&&_, _||_, false≢true, and-true}
-use Prim.Native.Nat.{ℕ, zero, suc, _+_, _*_, _/_, _%_, _^_, _≤_, _<_, zero-le}
+use Prim.Native.Nat.{ℕ, zero, suc, _+_, _-_, _*_, _/_, _%_, _^_, _≤_, _<_, zero-le}
 use native.Mathlib.Nat.{le-refl, le-antisymm, mul-assoc, pow-suc, zero-lt-suc, mul-one, eq-zero-or-pos, lt-of-not-le}
 use native.Mathlib.Omega.{arith}
 use lib.Arith.{half-le, digits-lt, le-zero, lt-one}
@@ -58,6 +58,12 @@ maskOf-suc (suc k) p =
     let ih = maskOf-suc k (λ v. p (suc v)) in
     let q : digit (p (suc k)) * 2 ^ suc k ≡ digit (p (suc k)) * 2 ^ k * 2 = rw (pow-suc, mul-assoc) in
     omega (arith, ih, q)
+
+-- every position below k
+pub maskOf-all : (k : ℕ) → maskOf k (λ v. true) ≡ 2 ^ k - 1
+unfolding maskOf
+maskOf-all zero = refl
+maskOf-all (suc k) = let ih = maskOf-all k in let l = maskOf-lt k (λ v. true) in rw pow-suc (omega arith)
 
 -- ---- the positions of m that pass p. The first number is how many digits are still to be looked at, for which m itself serves.
 

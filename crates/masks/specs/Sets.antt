@@ -50,6 +50,11 @@ pub ⊆-antisymm : (S R : List ℕ) → length S ≡ length R → S ⊆ R → R 
 
 -- ---- a set with n fields more, all empty
 
+pub getD-zeros : (n f : ℕ) → _≡_ {A = ℕ} (getD (replicate n 0) f 0) 0
+getD-zeros zero f = refl
+getD-zeros (suc n) zero = refl
+getD-zeros (suc n) (suc f) = getD-zeros n f
+
 unfoldable pub pad : ℕ → List ℕ → List ℕ
 pad n S = S ++ replicate n 0
 
@@ -61,13 +66,8 @@ pub has-pad : (n : ℕ) (S : List ℕ) (f v : ℕ) → has (pad n S) f v ≡ has
 unfolding pad has
 has-pad n S f v = ap (λ (m : ℕ). bit m v) (masks S f)
   where
-    zeros : (n f : ℕ) → _≡_ {A = ℕ} (getD (replicate n 0) f 0) 0
-    zeros zero f = refl
-    zeros (suc n) zero = refl
-    zeros (suc n) (suc f) = zeros n f
-
     masks : (S : List ℕ) (f : ℕ) → _≡_ {A = ℕ} (getD (S ++ replicate n 0) f 0) (getD S f 0)
-    masks [] f = zeros n f
+    masks [] f = getD-zeros n f
     masks (m ∷ S) zero = refl
     masks (m ∷ S) (suc f) = masks S f
 
@@ -96,6 +96,15 @@ only-at p S f v e = and-r (has S f v) _ (rw has-only at e)
 
 pub only-by : (p : ℕ → ℕ → Bool) (S : List ℕ) (f v : ℕ) → has S f v ≡ true → p f v ≡ true → has (only p S) f v ≡ true
 only-by p S f v e q = rw (has-only, e, q)
+
+-- tests that agree on the settings of S
+pub only-cong : (p q : ℕ → ℕ → Bool) (S : List ℕ) → ((f v : ℕ) → has S f v ≡ true → p f v ≡ q f v) → only p S ≡ only q S
+only-cong p q S h =
+    has-ext (only p S) (only q S) (length-only p S ∙ sym (length-only q S)) (λ f v. has-only p S f v ∙ go f v (has S f v) refl ∙ sym (has-only q S f v))
+  where
+    go : (f v : ℕ) (t : Bool) → has S f v ≡ t → (has S f v && p f v) ≡ (has S f v && q f v)
+    go f v true e = ap (λ (t : Bool). has S f v && t) (h f v e)
+    go f v false e = rw e
 
 only-all : (p : ℕ → ℕ → Bool) (S : List ℕ) → ((f v : ℕ) → p f v ≡ true) → only p S ≡ S
 unfolding only

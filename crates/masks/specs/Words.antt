@@ -1,17 +1,17 @@
 -- The operations that code has on words, bit by bit, and the lowest bit of a word. Assumes nothing.
 use mathlib.Core.Path.{_≡_, refl, sym, ap, _∙_}
-use mathlib.Core.Logic.{_⊎_, inl, inr, ⊎-elim}
-use mathlib.Core.Bool.{Bool, true, false, not, _&&_, _||_, and-false}
+use mathlib.Core.Logic.{_≢_, _⊎_, inl, inr, ⊎-elim}
+use mathlib.Core.Bool.{Bool, true, false, not, _&&_, _||_, and-true, and-false}
 use Prim.Native.Nat.{ℕ, zero, suc, _+_, _-_, _*_, _/_, _%_, _^_, _<_, min, max}
 use native.Mathlib.Nat.{mod-lt, mod-eq-of-lt, le-of-suc-le-suc, pow-suc, zero-lt-suc, one-mul, eq-zero-or-pos, zero-min, zero-max, mul-mod-left, mul-div-cancel}
 use native.Mathlib.Omega.{arith}
-use borrow.Author.Tests.{eqb-true, ltb-true, ltb-false}
+use borrow.Author.Tests.{eqb-true, eqb-false, eq-eqb, ne-eqb, ltb-true, ltb-false}
 use lib.Dec.{eqb, ltb, eqb·zero-suc, eqb·suc-zero, eqb·suc-suc}
 use lib.Bits.{bitAnd, bitOr, and-step, or-step, and-mask}
 use lib.Count.{trailingZeros, under}
 use lib.Pow.{pow-lt}
-use Rattle.masks.specs.Tests.{never}
-use Rattle.masks.specs.Bits.{bit, bit-zero, bit-suc, bit-of-zero, bit-cons-zero, bit-cons-suc, bit-ext, bit-high}
+use Rattle.masks.specs.Tests.{never, bool-cases, and-l}
+use Rattle.masks.specs.Bits.{bit, bit-zero, bit-suc, bit-of-zero, bit-cons-zero, bit-cons-suc, bit-ext, bit-high, Within, within-le}
 use Rattle.masks.specs.Masks.{keepBits, bit-keepBits}
 
 -- ---- and, or: an operation on digits and one on Bools that agree on single digits agree on every bit
@@ -113,6 +113,25 @@ clear x v = keepBits x (λ u. not (eqb u v))
 pub bit-clear : (x v u : ℕ) → bit (clear x v) u ≡ (bit x u && not (eqb u v))
 unfolding clear
 bit-clear x v u = bit-keepBits x (λ u. not (eqb u v)) u
+
+pub clear-within : (x v : ℕ) → Within (clear x v) x
+clear-within x v u e = and-l _ (not (eqb u v)) (sym (bit-clear x v u) ∙ e)
+
+pub clear-same : (x v : ℕ) → bit (clear x v) v ≡ false
+clear-same x v = bit-clear x v v ∙ rw (eq-eqb v v refl) (and-false (bit x v))
+
+pub clear-other : (x v u : ℕ) → (u ≡ v → ⊥) → bit (clear x v) u ≡ bit x u
+clear-other x v u d = bit-clear x v u ∙ rw (ne-eqb u v d) (and-true (bit x u))
+
+-- a position that went was v
+pub clear-gone : (x v u : ℕ) → bit x u ≡ true → bit (clear x v) u ≡ false → u ≡ v
+clear-gone x v u e g = ⊎-elim (λ q. eqb-true u v q) (λ q. absurd (never (clear-other x v u (eqb-false u v q) ∙ e) g)) (bool-cases (eqb u v))
+
+pub clear-lt : (x v : ℕ) → bit x v ≡ true → clear x v < x
+clear-lt x v e =
+    let l = within-le (clear x v) x (clear-within x v) in
+    let d : clear x v ≢ x = λ q. never e (ap (λ (y : ℕ). bit y v) (sym q) ∙ clear-same x v) in
+    omega arith
 
 -- `x & !(1 << v)` in a word of k bits
 pub clear-word : (k x v : ℕ) → x < 2 ^ k → v < k → clear x v ≡ bitAnd x (2 ^ k - 1 - 2 ^ v)
