@@ -1,0 +1,123 @@
+-- A source of numbers, bytes or a list, judged: 0 where it is a sheet, and else the number of its refusal; and what reading and writing give.
+-- Assumes nothing.
+use mathlib.Core.Path.{_≡_}
+use mathlib.Core.List.{List, [], _∷_, _++_, map}
+use Prim.Native.Nat.{ℕ, zero, suc, _-_}
+use lib.Dec.{ltb, leb, eqb}
+use lib.ListN.{length, drop}
+use Rattle.sheet.specs.Pick.{pick}
+use Rattle.sheet.specs.Refusals.{outOfRange, outOfOrder, surplus, tooShort}
+use Rattle.sheet.specs.Groups.{numberAt, numberRefusal, encode}
+use Rattle.sheet.specs.Grammar.{step, start, noCounts, atEnd}
+use Rattle.sheet.specs.declared.answer.Answer.{Answer}
+use Rattle.sheet.specs.declared.grammar.Expected.{Expected}
+use Rattle.sheet.specs.declared.grammar.State.{State}
+use Rattle.sheet.specs.declared.grammar.State.the-variants.{Wants, Complete, OutOfRange, OutOfOrder}
+use Rattle.sheet.specs.declared.groups.Number.{Number}
+use Rattle.sheet.specs.declared.groups.Number.the-variants.{Value, Ended, IllFormed}
+
+-- What a source has: a number, bytes that end inside a number, or groups that are no number.
+pub data Item : Type 0 where
+  num : ℕ → Item
+  cut : Item
+  ill : Item
+
+-- An item that follows: judged where a number is expected, surplus after the last rule, and a refusal stays.
+abbrev pub meets : State → (ℕ → Expected → ℕ) → ℕ
+meets (Wants n e) judged = judged n e
+meets Complete judged = surplus
+meets OutOfRange judged = outOfRange
+meets OutOfOrder judged = outOfOrder
+
+-- Item after item from a state on, with the counts ds of the fields so far: the first faulty one decides.
+unfoldable pub judge : State → List ℕ → List Item → ℕ
+judge st ds [] = atEnd st
+judge st ds (num x ∷ is) = meets st (λ n e. judge (step n e ds x .0) (step n e ds x .1) is)
+judge st ds (cut ∷ is) = meets st (λ n e. numberRefusal Ended)
+judge st ds (ill ∷ is) = meets st (λ n e. numberRefusal IllFormed)
+
+-- the number of a source's refusal, from its beginning on: 0 where it is a sheet
+abbrev pub refusal : List Item → ℕ
+refusal is = judge start noCounts is
+
+-- the numbers of a source, up to what is none
+unfoldable pub numbers : List Item → List ℕ
+numbers [] = []
+numbers (num x ∷ is) = x ∷ numbers is
+numbers (cut ∷ is) = []
+numbers (ill ∷ is) = []
+
+-- the items of the bytes s from a place on, of which there are no more than `most`
+abbrev pub itemsBy : Number → (ℕ → List Item) → List Item
+itemsBy (Value x next) rest = num x ∷ rest next
+itemsBy Ended rest = cut ∷ []
+itemsBy IllFormed rest = ill ∷ []
+
+unfoldable pub items : (most : ℕ) → List ℕ → ℕ → List Item
+items zero s at = []
+items (suc most) s at = pick (ltb at (length s)) (itemsBy (numberAt s at) (items most s)) []
+
+abbrev pub itemsFrom : List ℕ → ℕ → List Item
+itemsFrom s at = items (length s - at) s at
+
+-- Bytes and lists of numbers as sources.
+abbrev pub ofBytes : List ℕ → List Item
+ofBytes s = itemsFrom s 0
+
+abbrev pub ofNumbers : List ℕ → List Item
+ofNumbers xs = map num xs
+
+-- A list of numbers, and bytes, that are a sheet.
+abbrev pub Accepted : List ℕ → Type 0
+Accepted xs = refusal (ofNumbers xs) ≡ 0
+
+abbrev pub AcceptedBytes : List ℕ → Type 0
+AcceptedBytes s = refusal (ofBytes s) ≡ 0
+
+-- numbers in bytes
+unfoldable pub bytesOf : List ℕ → List ℕ
+bytesOf [] = []
+bytesOf (x ∷ xs) = encode x ++ bytesOf xs
+
+-- ---- what a call gives
+
+-- a number, and a length that is 0 for a refusal
+abbrev pub answered : ℕ → ℕ → Answer
+answered number size = record { number = number; length = pick (eqb number 0) size 0 }
+
+-- a source checked, with the length of what it would give
+abbrev pub checked : List Item → List ℕ → Answer
+checked is values = answered (refusal is) (length values)
+
+-- An answer, and what the output holds after the call.
+pub record Outcome : Type 0 where
+  pub answer : Answer
+  pub output : List ℕ
+
+-- a refusal leaves the output as it was
+abbrev pub refusing : ℕ → List ℕ → Outcome
+refusing number before = record { answer = answered number 0; output = before }
+
+-- the values in front; places past them are untouched
+abbrev pub giving : List ℕ → List ℕ → Outcome
+giving values before = record { answer = answered 0 (length values); output = values ++ drop (length values) before }
+
+-- checks 1 to 5 come first, and 6 last
+abbrev pub outcome : (number : ℕ) (values before : List ℕ) → Outcome
+outcome number values before =
+    pick (eqb number 0)
+    (pick (leb (length values) (length before)) (giving values before) (refusing tooShort before))
+    (refusing number before)
+
+-- Reading the bytes s to a list of numbers, over the output `before`.
+abbrev pub reading : List ℕ → List ℕ → Outcome
+reading s before = outcome (refusal (ofBytes s)) (numbers (ofBytes s)) before
+
+-- Writing the numbers xs as bytes.
+abbrev pub writing : List ℕ → List ℕ → Outcome
+writing xs before = outcome (refusal (ofNumbers xs)) (bytesOf xs) before
+
+-- A call's answer and its output afterwards are those of an outcome.
+pub record Gives (o : Outcome) (answer : Answer) (after : List ℕ) : Type 0 where
+  pub answers : answer ≡ o .answer
+  pub outputs : after ≡ o .output

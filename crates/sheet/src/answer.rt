@@ -1,0 +1,32 @@
+// What a call that reads or writes a sheet answers: 0 and a length, or the number of a refusal and 0.
+ghost use mathlib.Core.Path.{_≡_};
+ghost use Rattle.sheet.specs.Judge.{answered};
+
+pub const ENDS_INSIDE: u32 = 1;
+
+pub const ILL_FORMED: u32 = 2;
+
+pub const OUT_OF_RANGE: u32 = 3;
+
+pub const OUT_OF_ORDER: u32 = 4;
+
+pub const SURPLUS: u32 = 5;
+
+pub const TOO_SHORT: u32 = 6;
+
+#[repr(C)]
+pub struct Answer {
+    pub number: u32,
+    pub length: usize,
+}
+
+// The answer of a number, with a length where the number is 0.
+pub fn answered(number: u32, length: usize) -> Answer
+    ensures { λ r. ⌜ r ≡ answered number length ⌝ }
+{
+    if number == 0 {
+        Answer { number, length }
+    } else {
+        Answer { number, length: 0 }
+    }
+}

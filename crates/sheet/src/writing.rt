@@ -1,0 +1,81 @@
+// A list of numbers, checked, and written as a sheet's bytes.
+ghost use mathlib.Core.Path.{_≡_};
+ghost use Prim.Native.Nat.{_≤_};
+ghost use lib.ListN.{length, replicate};
+ghost use lib.Seq.{sets};
+ghost use Rattle.sheet.specs.Limits.{mostFields};
+ghost use Rattle.sheet.specs.Judge.{checked, Gives, writing, ofNumbers, bytesOf};
+use super::answer::Answer;
+use super::answer::OUT_OF_ORDER;
+use super::answer::OUT_OF_RANGE;
+use super::answer::SURPLUS;
+use super::answer::TOO_SHORT;
+use super::answer::answered;
+use super::grammar::Expected;
+use super::grammar::State;
+use super::grammar::at_end;
+use super::grammar::step;
+use super::groups::put;
+use super::groups::size;
+use super::limits::MOST_FIELDS;
+
+// `counts` is room for the counts of the fields.
+fn check_with(numbers: &[u32], counts: &mut [u32]) -> Answer
+    requires { ⌜ now counts ≡ replicate mostFields 0 ⌝ }
+    ensures { λ r. ⌜ r ≡ checked (ofNumbers (now (numbers .entry))) (bytesOf (now (numbers .entry))) ⌝ }
+{
+    let mut state = State::Wants(0, Expected::Fields);
+    let mut k: usize = 0;
+    let mut bytes: usize = 0;
+    while k < numbers.len() {
+        match state {
+            State::Wants(n, expected) => {
+                let x = numbers[k];
+                state = step(n, expected, counts, x);
+                bytes += size(x);
+                k += 1;
+            }
+            State::Complete => return answered(SURPLUS, 0),
+            State::OutOfRange => return answered(OUT_OF_RANGE, 0),
+            State::OutOfOrder => return answered(OUT_OF_ORDER, 0),
+        }
+    }
+    answered(at_end(state), bytes)
+}
+
+// Whether the numbers are a sheet, and how many bytes it has.
+pub fn check(numbers: &[u32]) -> Answer
+    ensures { λ r. ⌜ r ≡ checked (ofNumbers (now (numbers .entry))) (bytesOf (now (numbers .entry))) ⌝ }
+{
+    let mut counts = [0u32; MOST_FIELDS as usize];
+    check_with(numbers, &mut counts)
+}
+
+// Writes the bytes of the numbers over the front of the output.
+fn put_bytes(numbers: &[u32], output: &mut [u8])
+    requires { ⌜ length (bytesOf (now numbers)) ≤ length (now output) ⌝ }
+    ensures { λ _. ⌜ now (output .exit) ≡ sets (now (output .entry)) 0 (bytesOf (now (numbers .entry))) ⌝ }
+{
+    let mut k: usize = 0;
+    let mut place: usize = 0;
+    while k < numbers.len() {
+        let x = numbers[k];
+        place = put(output, place, x);
+        k += 1;
+    }
+}
+
+// Writes a list of numbers as a sheet's bytes.
+pub fn write(numbers: &[u32], output: &mut [u8]) -> Answer
+    ensures { λ r. ⌜ Gives (writing (now (numbers .entry)) (now (output .entry))) r (now (output .exit)) ⌝ }
+{
+    let answer = check(numbers);
+    if answer.number != 0 {
+        return answer;
+    }
+    if output.len() < answer.length {
+        return answered(TOO_SHORT, 0);
+    }
+    put_bytes(numbers, output);
+    answer
+}
