@@ -1,0 +1,66 @@
+-- `close` revises the fields that a changed field meets, until no field is changed.
+use Prim.Native.Nat.{_+_, _*_}
+use borrow.Author.Needs.{needs}
+use Rattle.masks.specs.Sets.{count}
+use Rattle.network.specs.Tables.{problemOf}
+use Rattle.closing.specs.Close.{Closing, closing-start, closing-end}
+use Rattle.closing.specs.CloseTurn.{spread-asks, turn-none, turn-next, turn-less}
+use Rattle.closing.proofs.close.close.Statement.{statement}
+use Rattle.closing.proofs.close.close.Tie as tie
+
+abbrev Inv-loop : tie.InvT-loop
+Inv-loop m₀ n within changed joined forward turned left₀ touched₀ m left touched = Closing (problemOf n joined forward turned) within m₀ left touched m
+
+abbrev μ-loop : tie.MeasureT-loop
+μ-loop m₀ n within changed joined forward turned left₀ touched₀ m left touched = count m * 16777216 + left
+
+loop-holds : tie.Need-loop-holds Inv-loop μ-loop
+loop-holds c = let a = c .before .before .pre in closing-start _ _ _ _ (a .part) (a .ready) (a .full)
+
+lowest-bit-requires : tie.Need-lowest-bit-requires Inv-loop μ-loop
+lowest-bit-requires c κs = search needs
+
+mul-near : tie.Need-mul-near Inv-loop μ-loop
+mul-near c = search needs
+
+element-copy-out-near : tie.Need-element-copy-out-near Inv-loop μ-loop
+element-copy-out-near c = spread-asks _ _ _ _ _ _ _ (c .before .before .before .before .before .pre) _ _ _ _ (c .before .before .loop .inv) (c .lowest-bit .ensures .0 .set) .1
+
+spread-requires : tie.Need-spread-requires Inv-loop μ-loop
+spread-requires c κs = spread-asks _ _ _ _ _ _ _ (c .before .before .before .before .before .before .before .pre) _ _ _ _ (c .before .before .before .before .loop .inv) (c .before .before .lowest-bit .ensures .0 .set)
+
+returns : tie.Need-returns Inv-loop μ-loop
+returns c = turn-none _ _ _ _ _ _ _ (c .before .before .before .before .before .before .before .before .before .pre) _ _ _ _ (c .before .before .before .before .before .before .loop .inv) (c .before .before .before .before .lowest-bit .ensures .0 .set) _ _ (rw (c .if1 .taken) at (c .before .spread .ensures)) _
+
+clear-bit-requires : tie.Need-clear-bit-requires Inv-loop μ-loop
+clear-bit-requires c κs = search needs
+
+loop-less : tie.Need-loop-less Inv-loop μ-loop
+loop-less c =
+    rw (c .before .before .clear-bit .ensures)
+    (turn-less _ _ _ _ _ _ _ (c .before .before .before .before .before .before .before .before .before .before .before .before .pre) _ _ _ _ (c .before .before .before .before .before .before .before .before .before .loop .inv) (c .before .before .before .before .before .before .before .lowest-bit .ensures .0 .set) _ _ (rw (c .before .before .before .if1 .left) at (c .before .before .before .before .spread .ensures)))
+
+loop-again : tie.Need-loop-again Inv-loop μ-loop
+loop-again c =
+    rw (c .before .before .clear-bit .ensures)
+    (turn-next _ _ _ _ _ _ _ (c .before .before .before .before .before .before .before .before .before .before .before .before .pre) _ _ _ _ (c .before .before .before .before .before .before .before .before .before .loop .inv) (c .before .before .before .before .before .before .before .lowest-bit .ensures .0 .set) _ _ (rw (c .before .before .before .if1 .left) at (c .before .before .before .before .spread .ensures)))
+
+returns-2 : tie.Need-returns-2 Inv-loop μ-loop
+returns-2 c = closing-end _ _ _ _ _ _ (c .loop-test .left) (c .before .loop .inv)
+
+pub close-spec : {M : Type 1} → statement M
+close-spec =
+    tie.close
+    (tie.spec
+    Inv-loop
+    μ-loop
+    loop-holds
+    lowest-bit-requires
+    mul-near
+    element-copy-out-near
+    spread-requires
+    returns
+    clear-bit-requires
+    loop-less
+    loop-again
+    returns-2)

@@ -1,0 +1,145 @@
+-- What the engines share: the sets that they work on, the test of a setting, the removal of one that failed. Assumes nothing.
+use mathlib.Core.Path.{_≡_, refl, sym, ap, ap₂, _∙_}
+use mathlib.Core.Logic.{⊎-elim}
+use mathlib.Core.Bool.{Bool, true, false, not}
+use mathlib.Core.List.{List}
+use Prim.Native.Nat.{ℕ, _^_, _≤_, _<_}
+use lib.ListN.{length, getD}
+use borrow.Author.Tests.{eq-eqb, not-true, not-false}
+use Rattle.masks.specs.Tests.{never, not-so, bool-cases}
+use Rattle.masks.specs.Bits.{Within}
+use Rattle.masks.specs.Words.{bit-one}
+use Rattle.masks.specs.Sets.{has, has-mask, _⊆_, only, only-⊆, only-at, only-by}
+use Rattle.masks.specs.Settings.{cut, cut-⊆, cut-at, cut-by, length-cut, lose, lose-⊆, lose-by, lose-at, empty, empty-at, empty-not, someEmpty}
+use Rattle.consistency.specs.Problem.{Problem, In, allFields, in-allFields}
+use Rattle.consistency.specs.Closing.{Closed, closing, closing-is}
+use Rattle.consistency.specs.Neighbourhood.{neighbourhood}
+use Rattle.consistency.specs.Offers.{NoneEmpty, noneEmpty, noneEmpty-at, noneEmpty-by, noneEmpty-mono, left, passesOver, passesOver-at, passesOver-by, witness-at, witness-by, passes, offers, offers-is, offers-lose, offers-between, wipedOut, wipedOut-by}
+use Rattle.consistency.specs.Order.{offers-in-closing}
+use Rattle.closing.specs.Shrunk.{eq-cases, Shrunk}
+use Rattle.closing.specs.Close.{Ready, Closes}
+
+module _ (P : Problem) where
+  -- A set that an engine works on: settings of the problem's fields only, closed over every field, no field empty.
+  pub record Live (S : List ℕ) : Type 0 where
+    pub on : (f v : ℕ) → has S f v ≡ true → f < P .fields
+    pub shut : Closed P (allFields P) S
+    pub full : NoneEmpty P (allFields P) S
+
+  -- ---- the test of position v of field f over W
+
+  pub cut-ready : (W : ℕ) (S : List ℕ) (f v : ℕ) → Closed P (allFields P) S → Ready P W (2 ^ f) (cut S f v)
+  cut-ready W S f v c h g i j k n u e =
+      let s = c h u (cut-⊆ S f v h u e) (in-allFields P h (i .0)) g (in-allFields P g (j .0)) k in
+      (s .0, cut-by S f v g (s .0) (s .1) (λ q. absurd (never (bit-one f g ∙ eq-eqb g f q) n)), s .2)
+
+  pub cut-full : (W : ℕ) (S : List ℕ) (f v : ℕ) → has S f v ≡ true → NoneEmpty P (allFields P) S → NoneEmpty P W (cut S f v)
+  cut-full W S f v e n g i =
+      not-so (empty (cut S f v) g) (λ z. ⊎-elim
+      (λ q. never (rw q (cut-by S f v f v e (λ _. refl))) (empty-at (cut S f v) g v z))
+      (λ q. let s = empty-not S g (n g (in-allFields P g (i .0))) in
+      never (cut-by S f v g (s .0) (s .1) (λ x. absurd (q x))) (empty-at (cut S f v) g (s .0) z))
+      (eq-cases g f))
+
+  -- what the test answers, and what it leaves where it passes
+  pub record Tested (W : ℕ) (S : List ℕ) (f v : ℕ) (ok : Bool) (R : List ℕ) : Type 0 where
+    pub sized : length R ≡ length S
+    pub passed : ok ≡ passesOver P W S f v
+    pub rest : ok ≡ true → R ≡ left P W S f v
+
+  pub tested : (W : ℕ) (S : List ℕ) (f v : ℕ) (wiped : Bool) (touched : ℕ) (R : List ℕ) → Closes P W (cut S f v) wiped touched R → Tested W S f v (not wiped) R
+  unfolding passesOver
+  tested W S f v wiped touched R c = record {
+    sized = c .sized ∙ length-cut S f v;
+    passed = ap not (c .wipes) ∙ twice (noneEmpty P W (closing P W (cut S f v)));
+    rest = λ e. c .made (not-true wiped e);
+  }
+    where
+      twice : (b : Bool) → not (not b) ≡ b
+      twice true = refl
+      twice false = refl
+
+  -- a passed test stays passed where nothing but f changed in W
+  module _ (W : ℕ) (S R : List ℕ) (f v : ℕ) (h : R ⊆ S) (hv : has R f v ≡ true)
+      (same : (g : ℕ) → In P W g → (g ≡ f → ⊥) → getD R g 0 ≡ getD S g 0) where
+    meet : List ℕ
+    meet = only (has (cut R f v)) (left P W S f v)
+
+    meet-by : (g u : ℕ) → In P W g → has (left P W S f v) g u ≡ true → has meet g u ≡ true
+    unfolding meet
+    meet-by g u i e =
+        let c = closing-is P W (cut S f v) .inside g u e in
+        only-by (has (cut R f v)) (left P W S f v) g u e
+        (⊎-elim (λ q. let z : u ≡ v = cut-at S f v u (rw q at c) in ap₂ (has (cut R f v)) q z ∙ cut-by R f v f v hv (λ _. refl))
+        (λ q. cut-by R f v g u (has-mask R S g u (same g i q) ∙ cut-⊆ S f v g u c) (λ z. absurd (q z)))
+        (eq-cases g f))
+
+    pub passes-same : passesOver P W S f v ≡ true → passesOver P W R f v ≡ true
+    unfolding meet
+    passes-same e =
+        let x = witness-at P W S f v (passesOver-at P W S f v e) in
+        passesOver-by P W R f v (witness-by P W R f v meet (record {
+          inside = λ g u b. only-at (has (cut R f v)) (left P W S f v) g u b;
+          shut = λ g u b i k j q. let s = x .shut g u (only-⊆ (has (cut R f v)) (left P W S f v) g u b) i k j q in (s .0, meet-by k (s .0) j (s .1), s .2);
+          full = λ g i. let s = empty-not (left P W S f v) g (x .full g i) in
+              not-so (empty meet g) (λ z. never (meet-by g (s .0) i (s .1)) (empty-at meet g (s .0) z));
+        }))
+
+  -- ---- a setting that failed is lost, and the set closed again
+
+  pub lose-ready : (S : List ℕ) (f v : ℕ) → Closed P (allFields P) S → Ready P (allFields P) (2 ^ f) (lose S f v)
+  lose-ready S f v c h g i j k n u e =
+      let s = c h u (lose-⊆ S f v h u e) i g j k in
+      (s .0, lose-by S f v g (s .0) (s .1) (λ x y. never (bit-one f g ∙ eq-eqb g f x) n), s .2)
+
+  -- the closing without the setting, or that a field is empty in it
+  pub record Removed (S : List ℕ) (f v : ℕ) (wiped : Bool) (touched : ℕ) (R : List ℕ) : Type 0 where
+    pub sized : length R ≡ length S
+    pub wipes : wiped ≡ not (noneEmpty P (allFields P) (closing P (allFields P) (lose S f v)))
+    pub made : wiped ≡ false → R ≡ closing P (allFields P) (lose S f v)
+    pub shrunk : wiped ≡ false → Shrunk S R touched
+    pub marks : wiped ≡ false → Within touched (allFields P)
+
+  -- ---- the offers stay the same
+
+  -- for every reach at which W is f's neighbourhood
+  abbrev pub Reaches : ℕ → ℕ → (ℕ → Type 0) → Type 0
+  Reaches W f A = (k : ℕ) → 1 ≤ k → W ≡ neighbourhood P k f → A k
+
+  -- a set that holds the offers and, closed over every field, has an empty one: wiped out
+  pub wiped-by : (k : ℕ) (S U : List ℕ) → offers P k S ⊆ U → noneEmpty P (allFields P) U ≡ false → wipedOut P k S ≡ true
+  wiped-by k S U h e =
+      ⊎-elim (λ q. q)
+      (λ q. absurd (never (noneEmpty-by P (allFields P) U (noneEmpty-mono P (allFields P) (offers P k S) U h
+      (λ g i. not-so (empty (offers P k S) g) (λ z. never (wipedOut-by P k S (offers P k S) g (i .0) (λ f v x. x) z) q)))) e))
+      (bool-cases (wipedOut P k S))
+
+  -- equal offers, equally wiped out
+  pub wiped-same : (k : ℕ) (S R : List ℕ) → offers P k S ≡ offers P k R → wipedOut P k S ≡ true → wipedOut P k R ≡ true
+  unfolding wipedOut
+  wiped-same k S R e w = ap (someEmpty (P .fields)) (sym e) ∙ w
+
+  module _ (W : ℕ) (S : List ℕ) (f v : ℕ) (fails : passesOver P W S f v ≡ false) where
+    offers-in-rest : Reaches W f (λ k. offers P k S ⊆ closing P (allFields P) (lose S f v))
+    unfolding passes
+    offers-in-rest k o w =
+        offers-in-closing P k o S (lose S f v) (offers-lose P k S S (offers-is P k S .inside) f v (ap (λ (Z : ℕ). passesOver P Z S f v) (sym w) ∙ fails))
+
+    module _ (wiped : Bool) (touched : ℕ) (R : List ℕ) (r : Removed S f v wiped touched R) where
+      pub removed-none : wiped ≡ true → Reaches W f (λ k. wipedOut P k S ≡ true)
+      removed-none e k o w = wiped-by k S _ (offers-in-rest k o w) (not-true _ (sym (r .wipes) ∙ e))
+
+      module _ (e : wiped ≡ false) where
+        pub removed-steady : Reaches W f (λ k. offers P k R ≡ offers P k S)
+        removed-steady k o w = offers-between P k S R (r .sized) (rw (r .made e) (offers-in-rest k o w)) (r .shrunk e .inside)
+
+        pub removed-live : Live S → Live R
+        removed-live l = record {
+          on = λ g u i. l .on g u (r .shrunk e .inside g u i);
+          shut = rw (r .made e) (closing-is P (allFields P) (lose S f v) .good);
+          full = rw (r .made e) (noneEmpty-at P (allFields P) _ (not-false _ (sym (r .wipes) ∙ e)));
+        }
+
+        -- the setting itself is gone
+        pub removed-gone : has R f v ≡ true → ⊥
+        removed-gone h = lose-at S f v (closing-is P (allFields P) (lose S f v) .inside f v (ap (λ (Q : List ℕ). has Q f v) (sym (r .made e)) ∙ h))

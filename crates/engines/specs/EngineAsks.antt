@@ -1,0 +1,63 @@
+-- What the engines ask, and that their parts ask no more. Assumes nothing.
+use mathlib.Core.Path.{_≡_, refl, _∙_}
+use mathlib.Core.Bool.{true, false}
+use mathlib.Core.List.{List}
+use Prim.Native.Nat.{ℕ, _≤_, _<_}
+use native.Mathlib.Omega.{arith}
+use lib.ListN.{length, getD}
+use Rattle.masks.specs.Bits.{bit, Within}
+use Rattle.masks.specs.Settings.{someEmpty}
+use Rattle.consistency.specs.Problem.{Problem, allFields}
+use Rattle.network.specs.Tables.{problemOf, Wired}
+use Rattle.closing.specs.Shrunk.{small-⊆}
+use Rattle.closing.specs.Asks.{Masks, CloseAsks, LiveAsks, asks-shrunk}
+use Rattle.engines.specs.Engine.{IsOrder, Hoods, OnFields, Begun, all-ready, all-full, Kept}
+
+-- a set as it is given: settings of the problem's fields only
+pub record StartAsks (n : ℕ) (joined forward turned : List ℕ) (S : List ℕ) : Type 0 where
+  pub wired : Wired n joined forward turned
+  pub masks : Masks S
+  pub on : OnFields (problemOf n joined forward turned) S
+
+-- an order, and the masks of the neighbourhoods
+pub record Lent (n : ℕ) (joined forward turned : List ℕ) (order hood : List ℕ) : Type 0 where
+  pub visits : IsOrder n order
+  pub hoods : Hoods (problemOf n joined forward turned) hood
+
+module _ (n : ℕ) (joined forward turned : List ℕ) where
+  abbrev P : Problem
+  P = problemOf n joined forward turned
+
+  -- closing at the start, from every field
+  pub start-asks : (S : List ℕ) → StartAsks n joined forward turned S → someEmpty n S ≡ false → CloseAsks n joined forward turned (allFields P) (allFields P) S
+  unfolding problemOf
+  start-asks S a e = record {
+    wired = a .wired;
+    masks = a .masks;
+    fields = λ g i. i;
+    part = λ g i. i;
+    ready = all-ready P S;
+    full = all-full P S e;
+  }
+
+  pub begun-asks : (S R : List ℕ) → StartAsks n joined forward turned S → Begun P S false R → LiveAsks n joined forward turned R
+  begun-asks S R a b = record {
+    wired = a .wired;
+    masks = record { long = b .sized ∙ a .masks .long; small = small-⊆ S R (b .inside refl) (a .masks .small) };
+    live = b .live refl;
+  }
+
+  pub kept-asks : {hood S R : List ℕ} {touched : ℕ} → LiveAsks n joined forward turned S → Kept P hood S touched R → LiveAsks n joined forward turned R
+  kept-asks {S = S} a k = asks-shrunk n joined forward turned S a (k .shrunk) (k .live)
+
+  -- what the visit of a field of the order asks
+  module _ (order hood : List ℕ) (l : Lent n joined forward turned order hood) (few : n ≤ 24) (q : ℕ) (h : q < n) where
+    abbrev f : ℕ
+    f = getD order q 0
+
+    pub order-low : (q < length order) × (getD order q 0 < 24)
+    order-low = let a = l .visits .sized in let b = l .visits .low q h in (omega arith, omega arith)
+
+    pub visit-asks : (getD order q 0 < n) × Within (getD hood (getD order q 0) 0) (allFields P) × (bit (getD hood (getD order q 0) 0) (getD order q 0) ≡ true)
+    unfolding problemOf
+    visit-asks = let b = l .visits .low q h in (b, l .hoods .fields f b, l .hoods .self f b)

@@ -1,0 +1,6 @@
+pub mod Store
+pub mod Visit
+pub mod Engine
+pub mod EngineAsks
+pub mod Pass
+pub mod Queue

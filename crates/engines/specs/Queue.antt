@@ -1,0 +1,208 @@
+-- Engine 3, the queue method: a field that is not on the queue passes. Assumes nothing.
+use mathlib.Core.Path.{_≡_, refl, sym, ap, _∙_}
+use mathlib.Core.Logic.{_⊎_, inl, inr, ⊎-elim}
+use mathlib.Core.Bool.{Bool, true, false, true≢false}
+use mathlib.Core.List.{List}
+use Prim.Native.Nat.{ℕ, _+_, _*_, _^_, _≤_, _<_}
+use native.Mathlib.Nat.{eq-or-lt-of-le, lt-of-le-of-lt}
+use native.Mathlib.Omega.{arith}
+use lib.Bits.{bitOr}
+use lib.ListN.{length, getD}
+use Rattle.masks.specs.Tests.{never, not-so, bool-cases, or-l, or-r}
+use Rattle.masks.specs.Bits.{bit, bit-some, bit-of-zero, Within, within-le}
+use Rattle.masks.specs.Masks.{maskOf, maskOf-bound}
+use Rattle.masks.specs.Words.{bit-or, clear, clear-within, clear-same, clear-other, clear-gone}
+use Rattle.masks.specs.Sets.{count}
+use Rattle.consistency.specs.Problem.{Problem, allFields, in-allFields, allFields-bound}
+use Rattle.network.specs.Tables.{problemOf}
+use Rattle.closing.specs.Shrunk.{eq-cases, or-within, zero-or, shrunk-still, shrunk-fewer}
+use Rattle.closing.specs.Frame.{Live, passes-same}
+use Rattle.engines.specs.Visit.{Visited}
+use Rattle.engines.specs.Engine.{IsOrder, Hoods, Kept, kept-start, kept-then, kept-wiped, Wiped, visit-kept, visit-wiped, FieldPasses}
+use Rattle.engines.specs.EngineAsks.{Lent}
+
+-- ---- what is put back
+
+-- the mask of the first n fields
+abbrev pub allOf : ℕ → ℕ
+allOf n = maskOf n (λ g. true)
+
+-- r holds the queue and, of each changed field, the other fields of its neighbourhood
+pub record Back (n : ℕ) (hood : List ℕ) (queue changed r : ℕ) : Type 0 where
+  pub keeps : Within queue r
+  pub small : Within r (allOf n)
+  pub none : changed ≡ 0 → r ≡ queue
+  pub adds : (h g : ℕ) → bit changed h ≡ true → bit (getD hood h 0) g ≡ true → (g ≡ h → ⊥) → bit r g ≡ true
+
+pub record BackAsks (n : ℕ) (hood : List ℕ) (queue changed : ℕ) : Type 0 where
+  pub few : n ≤ 24
+  pub queued : Within queue (allOf n)
+  pub marked : Within changed (allOf n)
+  pub hoods : (h : ℕ) → bit changed h ≡ true → (h < 24) × Within (getD hood h 0) (allOf n)
+
+-- the changed fields of `left` are still to come
+pub record Backing (n : ℕ) (hood : List ℕ) (queue changed left r : ℕ) : Type 0 where
+  pub lefts : Within left changed
+  pub keeps : Within queue r
+  pub small : Within r (allOf n)
+  pub none : changed ≡ 0 → r ≡ queue
+  pub adds : (h g : ℕ) → bit changed h ≡ true → bit left h ≡ false → bit (getD hood h 0) g ≡ true → (g ≡ h → ⊥) → bit r g ≡ true
+
+module _ (n : ℕ) (hood : List ℕ) (queue changed : ℕ) (a : BackAsks n hood queue changed) where
+  pub back-all : (changed ≡ 0 → ⊥) → Back n hood queue changed (allOf n)
+  back-all d = record { keeps = a .queued; small = λ v e. e; none = λ z. absurd (d z); adds = λ h g c e _. a .hoods h c .1 g e }
+
+  pub backing-start : Backing n hood queue changed changed queue
+  backing-start = record { lefts = λ v e. e; keeps = λ v e. e; small = a .queued; none = λ z. refl; adds = λ h g c e. absurd (never c e) }
+
+  pub backing-end : (left r : ℕ) → left ≡ 0 → Backing n hood queue changed left r → Back n hood queue changed r
+  backing-end left r z p = record {
+    keeps = p .keeps;
+    small = p .small;
+    none = p .none;
+    adds = λ h g c. p .adds h g c (ap (λ (x : ℕ). bit x h) z ∙ bit-of-zero h);
+  }
+
+  pub backing-turn : (left r f : ℕ) → bit left f ≡ true → Backing n hood queue changed left r → Backing n hood queue changed (clear left f) (bitOr r (clear (getD hood f 0) f))
+  backing-turn left r f b p = record {
+    lefts = λ v e. p .lefts v (clear-within left f v e);
+    keeps = λ v e. bit-or r (clear (getD hood f 0) f) v ∙ or-l _ _ (p .keeps v e);
+    small = or-within r (clear (getD hood f 0) f) (allOf n) (p .small) (λ v e. a .hoods f (p .lefts f b) .1 v (clear-within (getD hood f 0) f v e));
+    none = λ z. absurd (never (p .lefts f b) (ap (λ (x : ℕ). bit x f) z ∙ bit-of-zero f));
+    adds = λ h g c e y d. bit-or r (clear (getD hood f 0) f) g ∙ ⊎-elim
+        (λ q. let z : h ≡ f = clear-gone left f h q e in
+        or-r (bit r g) _ (clear-other (getD hood f 0) f g (λ x. d (x ∙ sym z)) ∙ ap (λ (i : ℕ). bit (getD hood i 0) g) (sym z) ∙ y))
+        (λ q. or-l _ _ (p .adds h g c q y d)) (bool-cases (bit left h));
+  }
+
+-- masks of the problem's fields will do
+pub back-asks : (n : ℕ) (joined forward turned order hood : List ℕ) → n ≤ 24 → Lent n joined forward turned order hood → (queue changed : ℕ)
+    → Within queue (allFields (problemOf n joined forward turned)) → Within changed (allFields (problemOf n joined forward turned)) → BackAsks n hood queue changed
+unfolding allFields problemOf
+back-asks n joined forward turned order hood few l queue changed q c = record {
+  few = few;
+  queued = q;
+  marked = c;
+  hoods = λ h e. let i = maskOf-bound n (λ g. true) h (c h e) in (omega arith, l .hoods .fields h i);
+}
+
+-- ---- one round: the fields on the queue are visited in the lent order
+
+module _ (P : Problem) (order hood : List ℕ) where
+  -- the settings of the fields that are not on the queue pass
+  abbrev pub Off : List ℕ → ℕ → Type 0
+  Off S queue = (f : ℕ) → f < P .fields → bit queue f ≡ false → FieldPasses P hood S f
+
+  module _ (S0 : List ℕ) (queue0 : ℕ) where
+    pub record Waiting (p queue touched : ℕ) (S : List ℕ) : Type 0 where
+      pub kept : Kept P hood S0 touched S
+      pub small : Within queue (allFields P)
+      pub gone : touched ≡ 0 → (q : ℕ) → q < p → bit queue (getD order q 0) ≡ false
+      pub off : Off S0 queue0 → Off S queue
+
+    -- What a round leaves: the same offers, and the queue is empty or the set smaller. Or else the set is wiped out.
+    pub record Rounded (wiped : Bool) (queue : ℕ) (S : List ℕ) : Type 0 where
+      pub sized : length S ≡ length S0
+      pub kept : wiped ≡ false → (touched : ℕ) × Kept P hood S0 touched S
+      pub small : wiped ≡ false → Within queue (allFields P)
+      pub ends : wiped ≡ false → (count S < count S0) ⊎ ((S ≡ S0) × (queue ≡ 0))
+      pub off : wiped ≡ false → Off S0 queue0 → Off S queue
+      pub none : wiped ≡ true → Wiped P hood S0
+
+    pub waiting-start : Live P S0 → Within queue0 (allFields P) → Waiting 0 queue0 0 S0
+    waiting-start l w = record { kept = kept-start P hood S0 l; small = w; gone = λ z q i. absurd (omega arith); off = λ o. o }
+
+    pub waiting-end : (p queue touched : ℕ) (S : List ℕ) → IsOrder (P .fields) order → P .fields ≤ p → Waiting p queue touched S → Rounded false queue S
+    waiting-end p queue touched S o h w =
+        record {
+          sized = w .kept .shrunk .sized;
+          kept = λ _. (touched, w .kept);
+          small = λ _. w .small;
+          ends = λ _. ⊎-elim (λ z. inr (shrunk-still (w .kept .shrunk) z, none z)) (λ z. inl (shrunk-fewer (w .kept .shrunk) z)) (eq-cases touched 0);
+          off = λ _. w .off;
+          none = λ e. absurd (true≢false (sym e));
+        }
+      where
+        none : touched ≡ 0 → queue ≡ 0
+        none z = ⊎-elim (λ q. q) (λ q.
+            let b = bit-some queue q in
+            let x = o .every (b .0) (allFields-bound P (b .0) (w .small (b .0) (b .1))) in
+            absurd (never (b .1) (ap (bit queue) (sym (x .2)) ∙ w .gone z (x .0) (let i = x .1 in omega arith)))) (eq-cases queue 0)
+
+    module _ (p queue touched : ℕ) (S : List ℕ) (w : Waiting p queue touched S) where
+      abbrev f : ℕ
+      f = getD order p 0
+
+      -- a field that is not on the queue is passed over
+      pub waiting-skip : bit queue (getD order p 0) ≡ false → Waiting (p + 1) queue touched S
+      waiting-skip e = record {
+        kept = w .kept;
+        small = w .small;
+        gone = λ z q i. ⊎-elim (λ j. ap (λ (x : ℕ). bit queue (getD order x 0)) j ∙ e) (λ j. w .gone z q j) (eq-or-lt-of-le (let k : q ≤ p = omega arith in k));
+        off = w .off;
+      }
+
+      module _ (l : getD order p 0 < P .fields) (wiped : Bool) (changed : ℕ) (R : List ℕ)
+          (v : Visited P (getD hood (getD order p 0) 0) (getD order p 0) S wiped changed R) where
+        pub waiting-none : wiped ≡ true → (any : ℕ) → Rounded true any R
+        waiting-none e any = record {
+          sized = v .sized ∙ w .kept .shrunk .sized;
+          kept = λ q. absurd (true≢false q);
+          small = λ q. absurd (true≢false q);
+          ends = λ q. absurd (true≢false q);
+          off = λ q. absurd (true≢false q);
+          none = λ _. kept-wiped P (w .kept) (visit-wiped P hood f l S wiped changed R v e);
+        }
+
+        pub waiting-turn : wiped ≡ false → Hoods P hood → (r : ℕ) → Back (P .fields) hood (clear queue (getD order p 0)) changed r → Waiting (p + 1) r (bitOr touched changed) R
+        unfolding allFields
+        waiting-turn e hs r b =
+            record {
+              kept = kept-then P (w .kept) (visit-kept P hood f l S wiped changed R v e);
+              small = b .small;
+              gone = gone;
+              off = λ o g i n. ⊎-elim (λ q. rw q (own (rw q at n))) (λ q. other g i n q (w .off o g i (was-off g n q))) (eq-cases g f);
+            }
+          where
+            gone : bitOr touched changed ≡ 0 → (q : ℕ) → q < p + 1 → bit r (getD order q 0) ≡ false
+            gone z q i =
+                let y = zero-or touched changed z in
+                ap (λ (x : ℕ). bit x (getD order q 0)) (b .none (y .1))
+                ∙ ⊎-elim (λ j. rw j (clear-same queue f))
+                (λ j. not-so _ (λ c. never (clear-within queue f (getD order q 0) c) (w .gone (y .0) q j)))
+                (eq-or-lt-of-le (let k : q ≤ p = omega arith in k))
+
+            was-off : (g : ℕ) → bit r g ≡ false → (g ≡ f → ⊥) → bit queue g ≡ false
+            was-off g n d = not-so (bit queue g) (λ c. never (b .keeps g (clear-other queue f g d ∙ c)) n)
+
+            -- a field i of g's neighbourhood, other than g, did not change where g is off the queue
+            unchanged : (g : ℕ) → g < P .fields → bit r g ≡ false → (i : ℕ) → bit (getD hood g 0) i ≡ true → bit changed i ≡ true → (g ≡ i → ⊥) → ⊥
+            unchanged g k n i y c d = never (b .adds i g c (hs .back g i k (allFields-bound P i (v .marks e i c)) y) d) n
+
+            own : bit r f ≡ false → FieldPasses P hood R f
+            own n = v .passed e (λ i c y. ⊎-elim (λ q. q) (λ q. absurd (unchanged f l n i y c (λ z. q (sym z)))) (eq-cases i f))
+
+            other : (g : ℕ) → g < P .fields → bit r g ≡ false → (g ≡ f → ⊥) → FieldPasses P hood S g → FieldPasses P hood R g
+            other g k n d o u h =
+                passes-same P (getD hood g 0) S R g u (v .shrunk e .inside) h
+                (λ i j q. v .shrunk e .same i (not-so (bit changed i) (λ c. unchanged g k n i (j .1) c (λ z. q (sym z)))))
+                (o u (v .shrunk e .inside g u h))
+
+  -- ---- the rounds; M is the set after the start, when every field is on the queue
+
+  pub record Turning (M : List ℕ) (queue : ℕ) (S : List ℕ) : Type 0 where
+    pub kept : (touched : ℕ) × Kept P hood M touched S
+    pub small : Within queue (allFields P)
+    pub off : Off S queue
+
+  pub turning-start : (M : List ℕ) → Live P M → Turning M (allFields P) M
+  turning-start M l = record { kept = (0, kept-start P hood M l); small = λ v e. e; off = λ f i n. absurd (never (in-allFields P f i .1) n) }
+
+  module _ (M S R : List ℕ) (queue next : ℕ) (t : Turning M queue S) (r : Rounded S queue false next R) where
+    pub turning-turn : Turning M next R
+    turning-turn = record { kept = (_, kept-then P (t .kept .1) (r .kept refl .1)); small = r .small refl; off = r .off refl (t .off) }
+
+    pub turning-less : allFields P < 2 ^ 24 → (queue ≡ 0 → ⊥) → count R * 16777216 + next < count S * 16777216 + queue
+    turning-less a d =
+        let b = lt-of-le-of-lt (within-le next (allFields P) (r .small refl)) a in
+        ⊎-elim (λ q. omega arith) (λ q. let e = ap count (q .0) in let z = q .1 in omega arith) (r .ends refl)

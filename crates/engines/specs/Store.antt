@@ -1,0 +1,210 @@
+-- What engine 2 remembers: for a setting that passed its test, the masks that the test left. They show that it passes for as long as the set
+-- holds all of them. Assumes nothing.
+use mathlib.Core.Path.{_≡_, refl, sym, ap, _∙_}
+use mathlib.Core.Logic.{_⊎_, inl, inr, ⊎-elim}
+use mathlib.Core.Bool.{Bool, true, not}
+use mathlib.Core.List.{List}
+use Prim.Native.Nat.{ℕ, zero, suc, _+_, _-_, _*_, _^_, _≤_, _<_}
+use native.Mathlib.Nat.{eq-or-lt-of-le, le-of-suc-le-suc}
+use native.Mathlib.Numerals.{add-one}
+use native.Mathlib.Omega.{arith}
+use lib.Bits.{bitAnd, bitOr, or-lt}
+use lib.Dec.{ltb}
+use lib.ListN.{length, getD, set, take, drop, length-set, length-take, length-drop, replicate, length-replicate, List·getD-eq-default}
+use lib.Pow.{pow-lt}
+use lib.Seq.{getD-set-same, getD-set-other, getD-take, getD-drop, ext-getD}
+use borrow.Author.Tests.{eqb-true, ltb-true, ltb-false}
+use Rattle.masks.specs.Tests.{never, bool-cases, and-by, or-at}
+use Rattle.masks.specs.Bits.{bit, bit-of-zero, bit-bound, Within}
+use Rattle.masks.specs.Words.{bit-or, bit-one, bit-and-not}
+use Rattle.masks.specs.Sets.{has, _⊆_, getD-zeros}
+use Rattle.masks.specs.Settings.{cut-at, cut-by}
+use Rattle.consistency.specs.Problem.{Problem}
+use Rattle.consistency.specs.Closing.{Closed}
+use Rattle.consistency.specs.Offers.{NoneEmpty, left, passesOver, passesOver-at, passesOver-by, witness-at, witness-by}
+use Rattle.closing.specs.Shrunk.{eq-cases, zero-or}
+use Rattle.closing.specs.Asks.{Masks}
+
+-- the words of the memory: 24 masks for each of 576 settings
+abbrev pub memoryWords : ℕ
+memoryWords = 13824
+
+-- where the masks of position u of field g are
+abbrev pub placeOf : ℕ → ℕ → ℕ
+placeOf g u = (g * 24 + u) * 24
+
+-- the masks at a place
+unfoldable pub recall : List ℕ → ℕ → List ℕ
+recall M base = take 24 (drop base M)
+
+recall-length : (M : List ℕ) (base : ℕ) → base + 24 ≤ length M → length (recall M base) ≡ 24
+unfolding recall
+recall-length M base h = simp (length-take, length-drop) (omega arith)
+
+recall-at : (M : List ℕ) (base h : ℕ) → h < 24 → getD (recall M base) h 0 ≡ getD M (base + h) 0
+unfolding recall
+recall-at M base h l = getD-take 24 (drop base M) h 0 l ∙ getD-drop base M h 0
+
+-- ---- whether the set holds all that is remembered
+
+-- the positions of the first i masks that the set lacks
+unfoldable pub lackBelow : ℕ → List ℕ → ℕ → List ℕ → ℕ
+lackBelow zero M base S = 0
+lackBelow (suc i) M base S = bitOr (lackBelow i M base S) (bitAnd (getD M (base + i) 0) (2 ^ 32 - 1 - getD S i 0))
+
+module _ (M : List ℕ) (base : ℕ) (S : List ℕ) where
+  pub lack-none : lackBelow 0 M base S ≡ 0
+  unfolding lackBelow
+  lack-none = refl
+
+  pub lack-next : (i : ℕ) → lackBelow (i + 1) M base S ≡ bitOr (lackBelow i M base S) (bitAnd (getD M (base + i) 0) (2 ^ 32 - 1 - getD S i 0))
+  unfolding lackBelow
+  lack-next i = rw add-one
+
+  module _ (words : (h : ℕ) → h < 24 → getD M (base + h) 0 < 2 ^ 32) (small : (h : ℕ) → getD S h 0 < 2 ^ 24) where
+    lack-within : (i : ℕ) → i ≤ 24 → lackBelow i M base S ≡ 0 → (h : ℕ) → h < i → Within (getD M (base + h) 0) (getD S h 0)
+    unfolding lackBelow
+    lack-within zero k z h l = absurd (omega arith)
+    lack-within (suc i) k z h l =
+        let q = zero-or (lackBelow i M base S) _ z in
+        ⊎-elim (λ j. rw j (here (q .1))) (λ j. lack-within i (omega arith) (q .0) h j) (eq-or-lt-of-le (le-of-suc-le-suc l))
+      where
+        here : bitAnd (getD M (base + i) 0) (2 ^ 32 - 1 - getD S i 0) ≡ 0 → Within (getD M (base + i) 0) (getD S i 0)
+        here e v b = ⊎-elim (λ q. q) (λ q. absurd (never
+            (bit-and-not 32 (getD M (base + i) 0) (getD S i 0) v (words i k) (let m = small i in omega arith) ∙ and-by _ _ b (ap not q))
+            (ap (λ (x : ℕ). bit x v) e ∙ bit-of-zero v))) (bool-cases (bit (getD S i 0) v))
+
+    pub lack-inside : base + 24 ≤ length M → lackBelow 24 M base S ≡ 0 → recall M base ⊆ S
+    unfolding has
+    lack-inside k z h v e = ⊎-elim
+        (λ q. let l = ltb-true h 24 q in lack-within 24 (omega arith) z h l v (sym (ap (λ (x : ℕ). bit x v) (recall-at M base h l)) ∙ e))
+        (λ q. absurd (never e (ap (λ (x : ℕ). bit x v) (List·getD-eq-default (recall M base) 0 (let l = ltb-false h 24 q in let n = recall-length M base k in omega arith)) ∙ bit-of-zero v)))
+        (bool-cases (ltb h 24))
+
+-- ---- masks stored at a place
+
+-- the first i masks of t stand at the place, and nothing else changed outside its 24 words
+pub record Storing (M0 : List ℕ) (base : ℕ) (t : List ℕ) (i : ℕ) (M : List ℕ) : Type 0 where
+  pub sized : length M ≡ length M0
+  pub here : (h : ℕ) → h < i → getD M (base + h) 0 ≡ getD t h 0
+  pub there : (j : ℕ) → ((j < base) ⊎ (base + 24 ≤ j)) → getD M j 0 ≡ getD M0 j 0
+
+module _ (M0 : List ℕ) (base : ℕ) (t : List ℕ) where
+  pub storing-start : Storing M0 base t 0 M0
+  storing-start = record { sized = refl; here = λ h l. absurd (omega arith); there = λ j e. refl }
+
+  pub storing-turn : (i : ℕ) (M : List ℕ) → i < 24 → base + i < length M → Storing M0 base t i M → Storing M0 base t (i + 1) (set M (base + i) (getD t i 0))
+  storing-turn i M b l p = record {
+    sized = length-set M (base + i) _ ∙ p .sized;
+    here = λ h k. ⊎-elim
+        (λ q. ap (λ (x : ℕ). getD (set M (base + i) (getD t i 0)) (base + x) 0) q ∙ getD-set-same M (base + i) _ 0 l ∙ ap (λ (x : ℕ). getD t x 0) (sym q))
+        (λ q. getD-set-other M (base + i) (base + h) _ 0 (λ z. omega arith) ∙ p .here h q) (eq-or-lt-of-le (let j : h ≤ i = omega arith in j));
+    there = λ j e. getD-set-other M (base + i) j _ 0 (λ z. ⊎-elim (λ q. omega arith) (λ q. omega arith) e) ∙ p .there j e;
+  }
+
+  module _ (M : List ℕ) (s : Storing M0 base t 24 M) where
+    pub recall-same : base + 24 ≤ length M0 → length t ≡ 24 → recall M base ≡ t
+    recall-same k l =
+        let n = recall-length M base (let z = s .sized in omega arith) in
+        ext-getD 0 (recall M base) t (n ∙ sym l) (λ h i. let j : h < 24 = rw n at i in recall-at M base h j ∙ s .here h j)
+
+    pub recall-other : (a : ℕ) → a + 24 ≤ length M0 → ((a + 24 ≤ base) ⊎ (base + 24 ≤ a)) → recall M a ≡ recall M0 a
+    recall-other a k d =
+        let n = recall-length M a (let z = s .sized in omega arith) in
+        ext-getD 0 (recall M a) (recall M0 a) (n ∙ sym (recall-length M0 a k))
+        (λ h i. let j : h < 24 = rw n at i in recall-at M a h j ∙ s .there (a + h) (⊎-elim (λ q. inl (omega arith)) (λ q. inr (omega arith)) d) ∙ sym (recall-at M0 a h j))
+
+-- ---- what the memory shows
+
+module _ (P : Problem) where
+  -- R shows that position v of field f passes over W in every set that holds R
+  pub record Shows (W f v : ℕ) (R : List ℕ) : Type 0 where
+    pub own : (y : ℕ) → has R f y ≡ true → y ≡ v
+    pub shut : Closed P W R
+    pub full : NoneEmpty P W R
+
+  pub shows-passes : (W f v : ℕ) (R S : List ℕ) → Shows W f v R → R ⊆ S → passesOver P W S f v ≡ true
+  shows-passes W f v R S s h =
+      passesOver-by P W S f v (witness-by P W S f v R (record {
+        inside = λ g u e. cut-by S f v g u (h g u e) (λ q. s .own u (rw q at e));
+        shut = s .shut;
+        full = s .full;
+      }))
+
+  -- what a passed test left shows it
+  pub left-shows : (W f v : ℕ) (S : List ℕ) → passesOver P W S f v ≡ true → Shows W f v (left P W S f v)
+  left-shows W f v S e =
+      let w = witness-at P W S f v (passesOver-at P W S f v e) in
+      record { own = λ y h. cut-at S f v y (w .inside f y h); shut = w .shut; full = w .full }
+
+  -- The memory: for each known setting, masks that show that it passes over its field's neighbourhood.
+  pub record Store (hood known M : List ℕ) : Type 0 where
+    pub long : memoryWords ≤ length M
+    pub masks : Masks known
+    pub shows : (g u : ℕ) → has known g u ≡ true → Shows (getD hood g 0) g u (recall M (placeOf g u))
+
+  -- nothing is known
+  pub store-start : (hood M : List ℕ) → memoryWords ≤ length M → Store hood (replicate 24 0) M
+  unfolding has
+  store-start hood M l = record {
+    long = l;
+    masks = record { long = length-replicate {A = ℕ} 24 0; small = λ f. rw (getD-zeros 24 f) (omega arith) };
+    shows = λ g u e. absurd (never e (ap (λ (x : ℕ). bit x u) (getD-zeros 24 g) ∙ bit-of-zero u));
+  }
+
+  module _ (hood known M : List ℕ) (st : Store hood known M) (f v : ℕ) (lf : f < 24) (lv : v < 24) where
+    pub memory-bound : placeOf f v + 24 ≤ length M
+    memory-bound = let l = st .long in omega arith
+
+    -- one setting more is known
+    pub store-add : (t : List ℕ) → length t ≡ 24 → Shows (getD hood f 0) f v t → (M' : List ℕ) → Storing M (placeOf f v) t 24 M'
+        → Store hood (set known f (bitOr (getD known f 0) (2 ^ v))) M'
+    unfolding has
+    store-add t lt sh M' s = record {
+      long = let l = st .long in let z = s .sized in omega arith;
+      masks = record {
+        long = length-set known f _ ∙ st .masks .long;
+        small = λ g. ⊎-elim (λ (q : g ≡ f). rw (q, getD-set-same known f (bitOr (getD known f 0) (2 ^ v)) 0 fl) (or-lt 24 (getD known f 0) (2 ^ v) (st .masks .small f) (pow-lt lv)))
+            (λ q. rw (getD-set-other known f g (bitOr (getD known f 0) (2 ^ v)) 0 q) (st .masks .small g)) (eq-cases g f);
+      };
+      shows = λ g u e. ⊎-elim (λ (q : g ≡ f). ⊎-elim (λ (r : u ≡ v). rw (q, r) here) (λ r. other g u (old g u e (λ _ y. r y)) (λ _ y. r y)) (eq-cases u v))
+          (λ q. other g u (old g u e (λ x _. q x)) (λ x _. q x)) (eq-cases g f);
+    }
+      where
+        fl : f < length known
+        fl = let n = st .masks .long in omega arith
+
+        here : Shows (getD hood f 0) f v (recall M' (placeOf f v))
+        here = rw (recall-same M (placeOf f v) t M' s memory-bound lt) sh
+
+        -- another setting was known before
+        old : (g u : ℕ) → has (set known f (bitOr (getD known f 0) (2 ^ v))) g u ≡ true → (g ≡ f → u ≡ v → ⊥) → has known g u ≡ true
+        old g u e d = ⊎-elim
+            (λ q. ⊎-elim (λ r. rw q r) (λ r. absurd (d q (eqb-true u v (sym (bit-one v u) ∙ r))))
+            (or-at (bit (getD known f 0) u) _ (sym (bit-or (getD known f 0) (2 ^ v) u) ∙ sym (ap (λ (x : ℕ). bit x u) (getD-set-same known f _ 0 fl)) ∙ (rw q at e))))
+            (λ q. sym (ap (λ (x : ℕ). bit x u) (getD-set-other known f g _ 0 q)) ∙ e) (eq-cases g f)
+
+        other : (g u : ℕ) → has known g u ≡ true → (g ≡ f → u ≡ v → ⊥) → Shows (getD hood g 0) g u (recall M' (placeOf g u))
+        other g u e d =
+            let lu = bit-bound 24 (getD known g 0) u (st .masks .small g) e in
+            let lg = field g u e in
+            rw (recall-other M (placeOf f v) t M' s (placeOf g u) (let l = st .long in omega arith) (apart g u lu d)) (st .shows g u e)
+          where
+            apart : (g u : ℕ) → u < 24 → (g ≡ f → u ≡ v → ⊥) → (placeOf g u + 24 ≤ placeOf f v) ⊎ (placeOf f v + 24 ≤ placeOf g u)
+            apart g u lu d = ⊎-elim (λ q. inl (let l = ltb-true (g * 24 + u) (f * 24 + v) q in omega arith))
+                (λ q. let l = ltb-false (g * 24 + u) (f * 24 + v) q in ⊎-elim (λ r. inr (let k = ltb-true (f * 24 + v) (g * 24 + u) r in omega arith))
+                (λ r. let k = ltb-false (f * 24 + v) (g * 24 + u) r in absurd (d (omega arith) (omega arith))) (bool-cases (ltb (f * 24 + v) (g * 24 + u))))
+                (bool-cases (ltb (g * 24 + u) (f * 24 + v)))
+
+            -- a known setting is of one of 24 fields
+            field : (g u : ℕ) → bit (getD known g 0) u ≡ true → g < 24
+            field g u e = ⊎-elim (λ q. ltb-true g 24 q)
+                (λ q. absurd (never e (ap (λ (x : ℕ). bit x u) (List·getD-eq-default known 0 (let l = ltb-false g 24 q in let n = st .masks .long in omega arith)) ∙ bit-of-zero u)))
+                (bool-cases (ltb g 24))
+
+  -- ---- the test with the memory
+
+  -- whether the setting passes, and what the memory has become
+  pub record Checked (hood S : List ℕ) (f v : ℕ) (ok : Bool) (known M : List ℕ) : Type 0 where
+    pub passed : ok ≡ passesOver P (getD hood f 0) S f v
+    pub store : Store hood known M

@@ -1,0 +1,208 @@
+-- The tables of a sheet, filled rule after rule. Assumes nothing.
+use mathlib.Core.Path.{_≡_, refl, sym, ap, _∙_}
+use mathlib.Core.Logic.{_⊎_, inl, inr, ⊎-elim}
+use mathlib.Core.Bool.{Bool, true, false, _&&_, _||_}
+use mathlib.Core.List.{List}
+use Prim.Native.Nat.{ℕ, _+_, _*_, _^_, _≤_, _<_}
+use native.Mathlib.Nat.{eq-or-lt-of-le, one-mul}
+use native.Mathlib.Numerals.{add-one}
+use native.Mathlib.Omega.{arith}
+use lib.Bits.{bitOr, or-shifted-r}
+use lib.Dec.{eqb, ltb}
+use lib.ListN.{length, getD, set, replicate, length-set, length-replicate}
+use lib.Seq.{getD-set-same, getD-set-other}
+use borrow.Author.Tests.{eqb-true, eqb-false, eq-eqb, ne-eqb, ltb-true, ltb-false, lt-ltb, le-ltb}
+use Rattle.masks.specs.Tests.{never, not-so, bool-cases, iff-eq, and-l, and-r, and-by, or-l, or-r, or-at, someBelow}
+use Rattle.masks.specs.Bits.{bit, bit-of-zero, bit-ext}
+use Rattle.masks.specs.Masks.{maskOf, bit-maskOf, maskOf-lt, maskOf-suc, digit}
+use Rattle.masks.specs.Words.{bit-or, bit-one}
+use Rattle.masks.specs.Sets.{getD-zeros}
+use Rattle.sheet.specs.Judge.{Accepted}
+use Rattle.sheet.specs.Parts.{fieldsOf, countOf, rulesOf, ruleStart, firstOf, secondOf, ruleAllows, RuleAt}
+use Rattle.sheet.specs.Facts.{Facts, facts}
+use Rattle.sheet.specs.Order.{no-pair-twice}
+use Rattle.network.specs.Slots.{slot, slot-bound, slot-unique}
+use Rattle.network.specs.Tables.{tableWords}
+use Rattle.network.specs.SheetProblem.{runs, runs-at, joins}
+use Rattle.network.specs.Stored.{Stored}
+use Rattle.network.specs.Built.{rowOf, columnOf, slotOf, Holds}
+
+-- ---- a mask made by a loop over the positions
+
+pub mask-none : (p : ℕ → Bool) → maskOf 0 p ≡ 0
+unfolding maskOf
+mask-none p = refl
+
+module _ (p : ℕ → Bool) (k : ℕ) where
+  pub mask-more : p k ≡ true → maskOf (k + 1) p ≡ bitOr (maskOf k p) (2 ^ k)
+  mask-more e =
+      let o = rw (one-mul (2 ^ k)) at (or-shifted-r 1 k (maskOf k p) (maskOf-lt k p)) in
+      let s = rw e at (maskOf-suc k p) in
+      rw add-one (omega arith)
+
+  pub mask-skip : p k ≡ false → maskOf (k + 1) p ≡ maskOf k p
+  mask-skip e = let s = rw e at (maskOf-suc k p) in rw add-one (omega arith)
+
+-- a row past the field's settings is empty
+pub mask-false : (k : ℕ) (p : ℕ → Bool) → ((v : ℕ) → p v ≡ false) → maskOf k p ≡ 0
+mask-false k p h = bit-ext _ 0 (λ v. bit-maskOf k p v ∙ rw (h v) (off (ltb v k)) ∙ sym (bit-of-zero v))
+  where
+    off : (b : Bool) → (b && false) ≡ false
+    off true = refl
+    off false = refl
+
+-- ---- one rule more
+
+-- the joined fields of i with j added, and with i and j joined
+abbrev pub withOne : List ℕ → ℕ → ℕ → List ℕ
+withOne joined i j = set joined i (bitOr (getD joined i 0) (2 ^ j))
+
+abbrev pub joinedWith : List ℕ → ℕ → ℕ → List ℕ
+joinedWith joined i j = withOne (withOne joined i j) j i
+
+pub holds-start : (xs forward turned : List ℕ) → tableWords ≤ length forward → tableWords ≤ length turned → Holds xs 0 (replicate 24 0) forward turned
+unfolding someBelow
+holds-start xs forward turned a b = record {
+  forwards = a;
+  turneds = b;
+  marks = length-replicate {A = ℕ} 24 0;
+  rows = λ r v l. absurd (omega arith);
+  columns = λ r u l. absurd (omega arith);
+  masks = λ f g. ap (λ (m : ℕ). bit m g) (getD-zeros 24 f) ∙ bit-of-zero g;
+}
+
+module _ (xs : List ℕ) (a : Accepted xs) (r : ℕ) (h : r < rulesOf xs) where
+  fs : Facts xs
+  fs = facts xs a
+
+  pub rule-bounds : (firstOf xs r < secondOf xs r) × (secondOf xs r < 24) × (slotOf xs r < 276)
+  rule-bounds =
+      let l = fs .apart r h in
+      let m = fs .within r h in
+      let n = fs .fields-few in
+      let k : secondOf xs r < 24 = omega arith in
+      (l, k, slot-bound (firstOf xs r) (secondOf xs r) l k)
+
+  -- the slots of earlier rules are others
+  apart : (q v : ℕ) → q < r → v < 24 → (slotOf xs q * 24 + v < slotOf xs r * 24) ⊎ (slotOf xs r * 24 + 24 ≤ slotOf xs q * 24 + v)
+  apart q v l w = ⊎-elim (λ e. inl (let k = ltb-true (slotOf xs q) (slotOf xs r) e in omega arith))
+      (λ e. inr (let k = ltb-false (slotOf xs q) (slotOf xs r) e in let d = differ in omega arith)) (bool-cases (ltb (slotOf xs q) (slotOf xs r)))
+    where
+      differ : ¬ (slotOf xs q ≡ slotOf xs r)
+      differ e =
+          let u = slot-unique (firstOf xs q) (secondOf xs q) (firstOf xs r) (secondOf xs r) (fs .apart q (let k = h in omega arith)) (fs .apart r h) e in
+          no-pair-twice xs fs q r l h (u .0) (u .1)
+
+  -- joining i and j adds rule r to the joined fields
+  runs-only : (f g : ℕ) → (f ≡ firstOf xs r → g ≡ secondOf xs r → ⊥) → runs xs f g r ≡ false
+  runs-only f g d = not-so (runs xs f g r) (λ e. let x = runs-at xs f g r e in d (sym (x .0)) (sym (x .1)))
+
+  runs-here : runs xs (firstOf xs r) (secondOf xs r) r ≡ true
+  unfolding runs
+  runs-here = and-by _ _ (eq-eqb (firstOf xs r) (firstOf xs r) refl) (eq-eqb (secondOf xs r) (secondOf xs r) refl)
+
+  module _ (joined forward turned : List ℕ) (t : Holds xs r joined forward turned) where
+    near : firstOf xs r ≡ secondOf xs r → ⊥
+    near e = let l = rule-bounds .0 in omega arith
+
+    old : (f g : ℕ) → joins xs f g r ≡ false → someBelow (r + 1) (joins xs f g) ≡ someBelow r (joins xs f g)
+    unfolding someBelow
+    old f g e = rw (add-one r, e)
+
+    new : (f g : ℕ) → joins xs f g r ≡ true → someBelow (r + 1) (joins xs f g) ≡ true
+    unfolding someBelow
+    new f g e = rw (add-one r, e)
+
+    -- one mask with one position more
+    added : (f g : ℕ) (e : ℕ) → (bit (getD joined f 0) e ≡ someBelow r (joins xs f e)) → (joins xs f e r ≡ eqb e g) → bit (bitOr (getD joined f 0) (2 ^ g)) e ≡ someBelow (r + 1) (joins xs f e)
+    added f g e m k = bit-or (getD joined f 0) (2 ^ g) e ∙ ⊎-elim
+        (λ q. rw (bit-one g e, q) (or-t (bit (getD joined f 0) e)) ∙ sym (new f e (k ∙ q)))
+        (λ q. rw (bit-one g e, q) (or-f (bit (getD joined f 0) e)) ∙ m ∙ sym (old f e (k ∙ q)))
+        (bool-cases (eqb e g))
+      where
+        or-t : (b : Bool) → (b || true) ≡ true
+        or-t true = refl
+        or-t false = refl
+
+        or-f : (b : Bool) → (b || false) ≡ b
+        or-f true = refl
+        or-f false = refl
+
+    joins-first : (e : ℕ) → joins xs (firstOf xs r) e r ≡ eqb e (secondOf xs r)
+    joins-first e = iff-eq _ _
+        (λ q. ⊎-elim (λ y. eq-eqb e (secondOf xs r) (sym (runs-at xs (firstOf xs r) e r y .1))) (λ y. absurd (near (sym (runs-at xs e (firstOf xs r) r y .1))))
+        (or-at (runs xs (firstOf xs r) e r) _ q))
+        (λ q. or-l _ _ (ap (λ (x : ℕ). runs xs (firstOf xs r) x r) (eqb-true e (secondOf xs r) q) ∙ runs-here))
+
+    joins-second : (e : ℕ) → joins xs (secondOf xs r) e r ≡ eqb e (firstOf xs r)
+    joins-second e = iff-eq _ _
+        (λ q. ⊎-elim (λ y. absurd (near (runs-at xs (secondOf xs r) e r y .0))) (λ y. eq-eqb e (firstOf xs r) (sym (runs-at xs e (secondOf xs r) r y .0)))
+        (or-at (runs xs (secondOf xs r) e r) _ q))
+        (λ q. or-r (runs xs (secondOf xs r) e r) _ (ap (λ (x : ℕ). runs xs x (secondOf xs r) r) (eqb-true e (firstOf xs r) q) ∙ runs-here))
+
+    eq-cases : (x y : ℕ) → (x ≡ y) ⊎ (x ≡ y → ⊥)
+    eq-cases x y = ⊎-elim (λ q. inl (eqb-true x y q)) (λ q. inr (eqb-false x y q)) (bool-cases (eqb x y))
+
+    first-low : firstOf xs r < length joined
+    first-low = let b = rule-bounds in let l = b .0 in let m = b .1 in let n = t .marks in omega arith
+
+    second-low : secondOf xs r < length (withOne joined (firstOf xs r) (secondOf xs r))
+    second-low = rw (length-set joined (firstOf xs r) (bitOr (getD joined (firstOf xs r) 0) (2 ^ secondOf xs r))) (let m = rule-bounds .1 in let n = t .marks in omega arith)
+
+    masks-next : (f g : ℕ) → bit (getD (joinedWith joined (firstOf xs r) (secondOf xs r)) f 0) g ≡ someBelow (r + 1) (joins xs f g)
+    masks-next f g = ⊎-elim
+        (λ (q : f ≡ secondOf xs r). rw q (
+        ap (λ (m : ℕ). bit m g) (getD-set-same (withOne joined (firstOf xs r) (secondOf xs r)) (secondOf xs r) _ 0 second-low
+        ∙ ap (λ (m : ℕ). bitOr m (2 ^ firstOf xs r)) (getD-set-other joined (firstOf xs r) (secondOf xs r) (bitOr (getD joined (firstOf xs r) 0) (2 ^ secondOf xs r)) 0 (λ e. near (sym e))))
+        ∙ added (secondOf xs r) (firstOf xs r) g (t .masks (secondOf xs r) g) (joins-second g)))
+        (λ q. ap (λ (m : ℕ). bit m g) (getD-set-other (withOne joined (firstOf xs r) (secondOf xs r)) (secondOf xs r) f (bitOr (getD (withOne joined (firstOf xs r) (secondOf xs r)) (secondOf xs r) 0) (2 ^ firstOf xs r)) 0 q) ∙ ⊎-elim
+        (λ (p : f ≡ firstOf xs r). rw p (ap (λ (m : ℕ). bit m g) (getD-set-same joined (firstOf xs r) _ 0 first-low)
+        ∙ added (firstOf xs r) (secondOf xs r) g (t .masks (firstOf xs r) g) (joins-first g)))
+        (λ p. ap (λ (m : ℕ). bit m g) (getD-set-other joined (firstOf xs r) f _ 0 p) ∙ t .masks f g
+        ∙ sym (old f g (not-so _ (λ e. ⊎-elim (λ y. p (sym (runs-at xs f g r y .0))) (λ y. q (sym (runs-at xs g f r y .1))) (or-at (runs xs f g r) (runs xs g f r) e)))))
+        (eq-cases f (firstOf xs r)))
+        (eq-cases f (secondOf xs r))
+
+    pub holds-next : (forward' turned' : List ℕ) → Stored forward (slotOf xs r * 24) (rowOf xs r) 24 forward' → Stored turned (slotOf xs r * 24) (columnOf xs r) 24 turned'
+        → Holds xs (r + 1) (joinedWith joined (firstOf xs r) (secondOf xs r)) forward' turned'
+    holds-next forward' turned' p q = record {
+      forwards = let l = t .forwards in let z = p .sized in omega arith;
+      turneds = let l = t .turneds in let z = q .sized in omega arith;
+      marks = simp length-set (t .marks);
+      rows = λ s v l w. ⊎-elim (λ (e : s ≡ r). rw e (p .here v w)) (λ e. p .there (slotOf xs s * 24 + v) (apart s v e w) ∙ t .rows s v e w)
+          (eq-or-lt-of-le (let k : s ≤ r = omega arith in k));
+      columns = λ s u l w. ⊎-elim (λ (e : s ≡ r). rw e (q .here u w)) (λ e. q .there (slotOf xs s * 24 + u) (apart s u e w) ∙ t .columns s u e w)
+          (eq-or-lt-of-le (let k : s ≤ r = omega arith in k));
+      masks = masks-next;
+    }
+
+-- ---- the loop over the rules
+
+-- The tables with the first r rules in them, the next rule standing at `place`.
+pub record Filled (xs forward0 turned0 : List ℕ) (r place : ℕ) (joined forward turned : List ℕ) : Type 0 where
+  pub accepted : Accepted xs
+  pub within : r ≤ rulesOf xs
+  pub at : place ≡ ruleStart xs r
+  pub forward-sized : length forward ≡ length forward0
+  pub turned-sized : length turned ≡ length turned0
+  pub holds : Holds xs r joined forward turned
+
+module _ (xs forward0 turned0 : List ℕ) where
+  pub filled-start : (place : ℕ) → Accepted xs → tableWords ≤ length forward0 → tableWords ≤ length turned0 → place ≡ ruleStart xs 0 → Filled xs forward0 turned0 0 place (replicate 24 0) forward0 turned0
+  filled-start place a b c e = record { accepted = a; within = omega arith; at = e; forward-sized = refl; turned-sized = refl; holds = holds-start xs forward0 turned0 b c }
+
+  module _ (r place : ℕ) (joined forward turned : List ℕ) (p : Filled xs forward0 turned0 r place joined forward turned) (h : r < rulesOf xs) where
+    pub rule-at : RuleAt xs r place
+    rule-at = record { accepted = p .accepted; within = h; at = p .at }
+
+    pub filled-next : (i j x y next : ℕ) (forward' turned' : List ℕ) → i ≡ firstOf xs r → j ≡ secondOf xs r → x ≡ 2 ^ j → y ≡ 2 ^ i → next ≡ ruleStart xs (r + 1)
+        → Stored forward (slotOf xs r * 24) (rowOf xs r) 24 forward' → Stored turned (slotOf xs r * 24) (columnOf xs r) 24 turned'
+        → Filled xs forward0 turned0 (r + 1) next (set (set joined i (bitOr (getD joined i 0) x)) j (bitOr (getD (set joined i (bitOr (getD joined i 0) x)) j 0) y)) forward' turned'
+    filled-next i j x y next forward' turned' a b d e k s t = record {
+      accepted = p .accepted;
+      within = omega arith;
+      at = k;
+      forward-sized = s .sized ∙ p .forward-sized;
+      turned-sized = t .sized ∙ p .turned-sized;
+      holds = rw (d, e, a, b) (holds-next xs (p .accepted) r h joined forward turned (p .holds) forward' turned' s t);
+    }

@@ -1,0 +1,9 @@
+pub mod Slots
+pub mod Tables
+pub mod Stored
+pub mod SheetProblem
+pub mod Built
+pub mod Filling
+pub mod RuleFields
+pub mod Hoods
+pub mod Network

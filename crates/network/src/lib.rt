@@ -1,0 +1,5 @@
+// The network of a sheet: the tables of its rules, the joined fields, and the neighbourhoods.
+pub mod rows; // rows.rt: the rows of the tables
+pub mod fill; // fill.rt: the tables, filled from an accepted list of numbers
+pub mod hoods; // hoods.rt: the neighbourhoods of the fields
+pub mod build; // build.rt: the whole network
