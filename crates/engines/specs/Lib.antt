@@ -4,3 +4,4 @@ pub mod Engine
 pub mod EngineAsks
 pub mod Pass
 pub mod Queue
+pub mod Answers

@@ -1,0 +1,48 @@
+-- What the engines answer on the network of a sheet, and that they answer the same. Assumes nothing.
+use mathlib.Core.Path.{_≡_, sym, _∙_}
+use mathlib.Core.Bool.{Bool, false}
+use mathlib.Core.List.{List}
+use Prim.Native.Nat.{ℕ, _<_}
+use lib.ListN.{getD}
+use Rattle.consistency.specs.Problem.{Problem, in-allFields}
+use Rattle.consistency.specs.Neighbourhood.{neighbourhood, neighbourhood-bound, neighbourhood-self, neighbourhood-symmetric}
+use Rattle.sheet.specs.Judge.{Accepted}
+use Rattle.sheet.specs.Parts.{reachOf}
+use Rattle.sheet.specs.Facts.{facts}
+use Rattle.network.specs.Tables.{problemOf}
+use Rattle.network.specs.SheetProblem.{sheetProblem, sheet-symmetric}
+use Rattle.network.specs.Network.{NetworkOf}
+use Rattle.engines.specs.Engine.{At, Hoods, Offered, Engine}
+
+-- Whichever engine and order: the same answer.
+pub same-answer : (P : Problem) (hood S : List ℕ) (k : ℕ) → At P hood k → (wiped wiped' : Bool) (R R' : List ℕ) → Engine P hood S wiped R → Engine P hood S wiped' R'
+    → (wiped ≡ wiped') × (wiped ≡ false → R ≡ R')
+same-answer P hood S k t wiped wiped' R R' a b =
+    let x = a k t in
+    let y = b k t in
+    let same = x .wipes ∙ sym (y .wipes) in
+    (same, λ e. x .made e ∙ sym (y .made (sym same ∙ e)))
+
+-- masks that are the neighbourhoods at a reach are what the engines ask
+hoods-at : (xs hood : List ℕ) → ((f : ℕ) → f < sheetProblem xs .fields → getD hood f 0 ≡ neighbourhood (sheetProblem xs) (reachOf xs) f) → Hoods (sheetProblem xs) hood
+hoods-at xs hood e = record {
+  fields = λ f h. rw (e f h) (λ g b. in-allFields (sheetProblem xs) g (neighbourhood-bound (sheetProblem xs) (reachOf xs) f g b) .1);
+  self = λ f h. rw (e f h) (neighbourhood-self (sheetProblem xs) (reachOf xs) f h .1);
+  back = λ f g h l b. rw (e g l) (neighbourhood-symmetric (sheetProblem xs) (sheet-symmetric xs) (reachOf xs) f g h (rw (e f h) at b));
+}
+
+module _ (xs : List ℕ) (a : Accepted xs) (n : ℕ) (joined hood forward turned : List ℕ) (t : NetworkOf xs n joined hood forward turned) where
+  near : (f : ℕ) → f < sheetProblem xs .fields → getD hood f 0 ≡ neighbourhood (sheetProblem xs) (reachOf xs) f
+  unfolding sheetProblem
+  near f h = t .near f (rw (t .fields) h)
+
+  -- the network of a sheet is what the engines ask
+  pub network-hoods : Hoods (problemOf n joined forward turned) hood
+  network-hoods = rw (t .problem) (hoods-at xs hood near)
+
+  pub network-at : At (problemOf n joined forward turned) hood (reachOf xs)
+  network-at = rw (t .problem) (record { least = facts xs a .reach-some; near = near })
+
+  -- An engine on the network of a sheet answers with the sheet's offers at its reach.
+  pub answers : (S : List ℕ) (wiped : Bool) (R : List ℕ) → Engine (problemOf n joined forward turned) hood S wiped R → Offered (sheetProblem xs) (reachOf xs) S wiped R
+  answers S wiped R e = rw (t .problem) at (e (reachOf xs) network-at)
