@@ -9,7 +9,7 @@ use native.Mathlib.Omega.{arith}
 use lib.Bits.{bitOr}
 use lib.ListN.{length, getD}
 use lib.Pow.{pow-mono}
-use Rattle.masks.specs.Tests.{never, not-so}
+use Rattle.masks.specs.Tests.{never, not-so, eq-cases}
 use Rattle.masks.specs.Bits.{bit, bit-bound, Within, within-le}
 use Rattle.masks.specs.Masks.{maskOf-lt}
 use Rattle.masks.specs.Words.{clear, clear-within, clear-same}
@@ -19,7 +19,7 @@ use Rattle.consistency.specs.Problem.{Problem, allFields, in-allFields}
 use Rattle.consistency.specs.Closing.{closing, closing-is}
 use Rattle.consistency.specs.Offers.{NoneEmpty, noneEmpty, noneEmpty-at}
 use Rattle.network.specs.Tables.{problemOf, Wired}
-use Rattle.closing.specs.Shrunk.{eq-cases, or-within, one-within, Small, small-⊆, Shrunk, shrunk-then, shrunk-set}
+use Rattle.closing.specs.Shrunk.{or-within, one-within, Small, small-⊆, Shrunk, shrunk-then, shrunk-set}
 use Rattle.closing.specs.Close.{Ready, Closes}
 use Rattle.closing.specs.Frame.{Live, Removed, cut-ready, cut-full, lose-ready}
 

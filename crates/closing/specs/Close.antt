@@ -9,7 +9,7 @@ use lib.Bits.{bitOr, or-zero-r}
 use lib.Dec.{ltb}
 use lib.ListN.{length}
 use borrow.Author.Tests.{ltb-true, lt-ltb}
-use Rattle.masks.specs.Tests.{never, not-so, and-l, and-r, and-by, _⇒_, ⇒-at, ⇒-by}
+use Rattle.masks.specs.Tests.{never, not-so, eq-cases, and-l, and-r, and-by, _⇒_, ⇒-at, ⇒-by}
 use Rattle.masks.specs.Bits.{bit, bit-of-zero, Within, within-le}
 use Rattle.masks.specs.Words.{clear, clear-within, clear-other, clear-lt}
 use Rattle.masks.specs.Sets.{has, has-mask, _⊆_, only, length-only, only-⊆, only-at, only-by, count}
@@ -17,7 +17,7 @@ use Rattle.masks.specs.Settings.{empty, empty-at, empty-by}
 use Rattle.consistency.specs.Problem.{Problem, In}
 use Rattle.consistency.specs.Closing.{Partner, partner, partner-at, partner-by, Closed, closing, closing-is, closing-self, closing-between}
 use Rattle.consistency.specs.Offers.{NoneEmpty, noneEmpty, noneEmpty-at, noneEmpty-by}
-use Rattle.closing.specs.Shrunk.{eq-cases, or-not, or-within, Shrunk, shrunk-none, shrunk-then, shrunk-measure}
+use Rattle.closing.specs.Shrunk.{or-not, or-within, Shrunk, shrunk-none, shrunk-then, shrunk-measure}
 
 module _ (P : Problem) where
   -- each setting of a field of W has its partners in the fields of W that are not in `changed`

@@ -6,7 +6,7 @@ use mathlib.Core.List.{List}
 use Prim.Native.Nat.{ℕ, _^_, _≤_, _<_}
 use lib.ListN.{length, getD}
 use borrow.Author.Tests.{eq-eqb, not-true, not-false}
-use Rattle.masks.specs.Tests.{never, not-so, bool-cases}
+use Rattle.masks.specs.Tests.{never, not-so, bool-cases, eq-cases}
 use Rattle.masks.specs.Bits.{Within}
 use Rattle.masks.specs.Words.{bit-one}
 use Rattle.masks.specs.Sets.{has, has-mask, _⊆_, only, only-⊆, only-at, only-by}
@@ -16,7 +16,7 @@ use Rattle.consistency.specs.Closing.{Closed, closing, closing-is}
 use Rattle.consistency.specs.Neighbourhood.{neighbourhood}
 use Rattle.consistency.specs.Offers.{NoneEmpty, noneEmpty, noneEmpty-at, noneEmpty-by, noneEmpty-mono, left, passesOver, passesOver-at, passesOver-by, witness-at, witness-by, passes, offers, offers-is, offers-lose, offers-between, wipedOut, wipedOut-by}
 use Rattle.consistency.specs.Order.{offers-in-closing}
-use Rattle.closing.specs.Shrunk.{eq-cases, Shrunk}
+use Rattle.closing.specs.Shrunk.{Shrunk}
 use Rattle.closing.specs.Close.{Ready, Closes}
 
 module _ (P : Problem) where

@@ -11,13 +11,10 @@ use lib.Dec.{eqb}
 use lib.ListN.{length, getD, set, length-set}
 use lib.Seq.{ext-getD, getD-set-same, getD-set-other}
 use borrow.Author.Tests.{eqb-true, eqb-false, eq-eqb}
-use Rattle.masks.specs.Tests.{never, not-so, bool-cases, or-l, or-r, or-at}
+use Rattle.masks.specs.Tests.{never, not-so, eq-cases, bool-cases, or-l, or-r, or-at}
 use Rattle.masks.specs.Bits.{bit, bit-of-zero, bit-some, Within, within-le}
 use Rattle.masks.specs.Words.{bit-or, bit-one}
 use Rattle.masks.specs.Sets.{has, _⊆_, ⊆-refl, ⊆-trans, ⊆-mask, count, count-lt, same, same-at}
-
-pub eq-cases : (a b : ℕ) → (a ≡ b) ⊎ (a ≡ b → ⊥)
-eq-cases a b = ⊎-elim (λ q. inl (eqb-true a b q)) (λ q. inr (eqb-false a b q)) (bool-cases (eqb a b))
 
 -- ---- masks
 

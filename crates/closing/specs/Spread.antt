@@ -9,12 +9,12 @@ use lib.ListN.{length, getD, set, length-set}
 use lib.Seq.{getD-set-same, getD-set-other, set-getD}
 use borrow.Author.Tests.{ne-eqb}
 use lib.Dec.{eqb}
-use Rattle.masks.specs.Tests.{never, and-l, _⇒_}
+use Rattle.masks.specs.Tests.{never, eq-cases, and-l, _⇒_}
 use Rattle.masks.specs.Bits.{bit, bit-of-zero, Within}
 use Rattle.masks.specs.Words.{bit-and, clear, clear-within, clear-same, clear-other}
 use Rattle.masks.specs.Sets.{has, has-ext, only, has-only, length-only, only-cong}
 use Rattle.masks.specs.Settings.{empty, empty-by}
-use Rattle.closing.specs.Shrunk.{eq-cases, or-within, one-within, has-set-same, has-set-other, Shrunk, shrunk-none, shrunk-then, shrunk-set}
+use Rattle.closing.specs.Shrunk.{or-within, one-within, has-set-same, has-set-other, Shrunk, shrunk-none, shrunk-then, shrunk-set}
 
 -- each field f of `near` keeps the positions of `keep f`
 unfoldable pub keepNear : ℕ → (ℕ → ℕ) → List ℕ → List ℕ

@@ -8,14 +8,14 @@ use native.Mathlib.Nat.{eq-or-lt-of-le, lt-of-le-of-lt}
 use native.Mathlib.Omega.{arith}
 use lib.Bits.{bitOr}
 use lib.ListN.{length, getD}
-use Rattle.masks.specs.Tests.{never, not-so, bool-cases, or-l, or-r}
+use Rattle.masks.specs.Tests.{never, not-so, bool-cases, eq-cases, or-l, or-r}
 use Rattle.masks.specs.Bits.{bit, bit-some, bit-of-zero, Within, within-le}
 use Rattle.masks.specs.Masks.{maskOf, maskOf-bound}
 use Rattle.masks.specs.Words.{bit-or, clear, clear-within, clear-same, clear-other, clear-gone}
 use Rattle.masks.specs.Sets.{count}
 use Rattle.consistency.specs.Problem.{Problem, allFields, in-allFields, allFields-bound}
 use Rattle.network.specs.Tables.{problemOf}
-use Rattle.closing.specs.Shrunk.{eq-cases, or-within, zero-or, shrunk-still, shrunk-fewer}
+use Rattle.closing.specs.Shrunk.{or-within, zero-or, shrunk-still, shrunk-fewer}
 use Rattle.closing.specs.Frame.{Live, passes-same}
 use Rattle.engines.specs.Visit.{Visited}
 use Rattle.engines.specs.Engine.{IsOrder, Hoods, Kept, kept-start, kept-then, kept-wiped, Wiped, visit-kept, visit-wiped, FieldPasses}

@@ -14,7 +14,7 @@ use lib.ListN.{length, getD, set, take, drop, length-set, length-take, length-dr
 use lib.Pow.{pow-lt}
 use lib.Seq.{getD-set-same, getD-set-other, getD-take, getD-drop, ext-getD}
 use borrow.Author.Tests.{eqb-true, ltb-true, ltb-false}
-use Rattle.masks.specs.Tests.{never, bool-cases, and-by, or-at}
+use Rattle.masks.specs.Tests.{never, bool-cases, eq-cases, and-by, or-at}
 use Rattle.masks.specs.Bits.{bit, bit-of-zero, bit-bound, Within}
 use Rattle.masks.specs.Words.{bit-or, bit-one, bit-and-not}
 use Rattle.masks.specs.Sets.{has, _⊆_, getD-zeros}
@@ -22,7 +22,8 @@ use Rattle.masks.specs.Settings.{cut-at, cut-by}
 use Rattle.consistency.specs.Problem.{Problem}
 use Rattle.consistency.specs.Closing.{Closed}
 use Rattle.consistency.specs.Offers.{NoneEmpty, left, passesOver, passesOver-at, passesOver-by, witness-at, witness-by}
-use Rattle.closing.specs.Shrunk.{eq-cases, zero-or}
+use Rattle.network.specs.Stored.{Stored, wordsOf, wordsOf-at}
+use Rattle.closing.specs.Shrunk.{zero-or}
 use Rattle.closing.specs.Asks.{Masks}
 
 -- the words of the memory: 24 masks for each of 576 settings
@@ -83,30 +84,12 @@ module _ (M : List ℕ) (base : ℕ) (S : List ℕ) where
 
 -- ---- masks stored at a place
 
--- the first i masks of t stand at the place, and nothing else changed outside its 24 words
-pub record Storing (M0 : List ℕ) (base : ℕ) (t : List ℕ) (i : ℕ) (M : List ℕ) : Type 0 where
-  pub sized : length M ≡ length M0
-  pub here : (h : ℕ) → h < i → getD M (base + h) 0 ≡ getD t h 0
-  pub there : (j : ℕ) → ((j < base) ⊎ (base + 24 ≤ j)) → getD M j 0 ≡ getD M0 j 0
-
 module _ (M0 : List ℕ) (base : ℕ) (t : List ℕ) where
-  pub storing-start : Storing M0 base t 0 M0
-  storing-start = record { sized = refl; here = λ h l. absurd (omega arith); there = λ j e. refl }
-
-  pub storing-turn : (i : ℕ) (M : List ℕ) → i < 24 → base + i < length M → Storing M0 base t i M → Storing M0 base t (i + 1) (set M (base + i) (getD t i 0))
-  storing-turn i M b l p = record {
-    sized = length-set M (base + i) _ ∙ p .sized;
-    here = λ h k. ⊎-elim
-        (λ q. ap (λ (x : ℕ). getD (set M (base + i) (getD t i 0)) (base + x) 0) q ∙ getD-set-same M (base + i) _ 0 l ∙ ap (λ (x : ℕ). getD t x 0) (sym q))
-        (λ q. getD-set-other M (base + i) (base + h) _ 0 (λ z. omega arith) ∙ p .here h q) (eq-or-lt-of-le (let j : h ≤ i = omega arith in j));
-    there = λ j e. getD-set-other M (base + i) j _ 0 (λ z. ⊎-elim (λ q. omega arith) (λ q. omega arith) e) ∙ p .there j e;
-  }
-
-  module _ (M : List ℕ) (s : Storing M0 base t 24 M) where
+  module _ (M : List ℕ) (s : Stored M0 base (wordsOf t) 24 M) where
     pub recall-same : base + 24 ≤ length M0 → length t ≡ 24 → recall M base ≡ t
     recall-same k l =
         let n = recall-length M base (let z = s .sized in omega arith) in
-        ext-getD 0 (recall M base) t (n ∙ sym l) (λ h i. let j : h < 24 = rw n at i in recall-at M base h j ∙ s .here h j)
+        ext-getD 0 (recall M base) t (n ∙ sym l) (λ h i. let j : h < 24 = rw n at i in recall-at M base h j ∙ s .here h j ∙ wordsOf-at t h)
 
     pub recall-other : (a : ℕ) → a + 24 ≤ length M0 → ((a + 24 ≤ base) ⊎ (base + 24 ≤ a)) → recall M a ≡ recall M0 a
     recall-other a k d =
@@ -157,7 +140,7 @@ module _ (P : Problem) where
     memory-bound = let l = st .long in omega arith
 
     -- one setting more is known
-    pub store-add : (t : List ℕ) → length t ≡ 24 → Shows (getD hood f 0) f v t → (M' : List ℕ) → Storing M (placeOf f v) t 24 M'
+    pub store-add : (t : List ℕ) → length t ≡ 24 → Shows (getD hood f 0) f v t → (M' : List ℕ) → Stored M (placeOf f v) (wordsOf t) 24 M'
         → Store hood (set known f (bitOr (getD known f 0) (2 ^ v))) M'
     unfolding has
     store-add t lt sh M' s = record {

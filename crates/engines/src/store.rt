@@ -9,10 +9,11 @@ ghost use Rattle.masks.specs.Sets.{has, _⊆_};
 ghost use Rattle.consistency.specs.Problem.{allFields};
 ghost use Rattle.network.specs.Tables.{problemOf};
 ghost use Rattle.closing.specs.Asks.{Masks, LiveAsks};
-ghost use Rattle.engines.specs.Store.{recall, lackBelow, Storing, Store, Checked};
+ghost use Rattle.engines.specs.Store.{recall, lackBelow, Store, Checked};
 use closing::test::test;
 use masks::has_bit;
 use masks::one_bit;
+use network::rows::store;
 
 // Whether m holds all of the 24 masks at a place of the memory.
 fn intact(memory: &[u32], base: usize, m: &[u32; 24]) -> bool
@@ -26,18 +27,6 @@ fn intact(memory: &[u32], base: usize, m: &[u32; 24]) -> bool
         h += 1;
     }
     lack == 0
-}
-
-// Stores 24 masks at a place of the memory.
-fn remember(memory: &mut [u32], base: usize, t: &[u32; 24])
-    requires { ⌜ base + 24 ≤ length (now memory) ⌝ }
-    ensures { λ _. ⌜ Storing (now (memory .entry)) base (now (t .entry)) 24 (now (memory .exit)) ⌝ }
-{
-    let mut h: usize = 0;
-    while h < 24 {
-        memory[base + h] = t[h];
-        h += 1;
-    }
 }
 
 // Whether position v of field f passes in the set t over f's neighbourhood. With `remembers`, what a passed test left is remembered, and
@@ -72,7 +61,7 @@ pub fn check<'a>(
         return false;
     }
     if remembers {
-        remember(memory, base, t);
+        store(memory, base, t);
         known[f] |= one_bit(v);
     }
     true

@@ -2,5 +2,6 @@ pub mod Tests
 pub mod Bits
 pub mod Masks
 pub mod Words
+pub mod Loops
 pub mod Sets
 pub mod Settings

@@ -12,7 +12,7 @@ use lib.Dec.{eqb, ltb}
 use lib.ListN.{length, getD, set, replicate, length-set, length-replicate}
 use lib.Seq.{getD-set-same, getD-set-other}
 use borrow.Author.Tests.{eqb-true, eqb-false, eq-eqb, ne-eqb, ltb-true, ltb-false, lt-ltb, le-ltb}
-use Rattle.masks.specs.Tests.{never, not-so, bool-cases, iff-eq, and-l, and-r, and-by, or-l, or-r, or-at, someBelow}
+use Rattle.masks.specs.Tests.{never, not-so, bool-cases, eq-cases, iff-eq, and-l, and-r, and-by, or-l, or-r, or-at, someBelow}
 use Rattle.masks.specs.Bits.{bit, bit-of-zero, bit-ext}
 use Rattle.masks.specs.Masks.{maskOf, bit-maskOf, maskOf-lt, maskOf-suc, digit}
 use Rattle.masks.specs.Words.{bit-or, bit-one}
@@ -22,34 +22,11 @@ use Rattle.sheet.specs.Parts.{fieldsOf, countOf, rulesOf, ruleStart, firstOf, s
 use Rattle.sheet.specs.Facts.{Facts, facts}
 use Rattle.sheet.specs.Order.{no-pair-twice}
 use Rattle.network.specs.Slots.{slot, slot-bound, slot-unique}
-use Rattle.network.specs.Tables.{tableWords}
+use Rattle.network.specs.Tables.{tableWords, bothTables, forwardOf, turnedOf, tables-room}
 use Rattle.network.specs.SheetProblem.{runs, runs-at, joins}
 use Rattle.network.specs.Stored.{Stored}
 use Rattle.network.specs.Built.{rowOf, columnOf, slotOf, Holds}
-
--- ---- a mask made by a loop over the positions
-
-pub mask-none : (p : ℕ → Bool) → maskOf 0 p ≡ 0
-unfolding maskOf
-mask-none p = refl
-
-module _ (p : ℕ → Bool) (k : ℕ) where
-  pub mask-more : p k ≡ true → maskOf (k + 1) p ≡ bitOr (maskOf k p) (2 ^ k)
-  mask-more e =
-      let o = rw (one-mul (2 ^ k)) at (or-shifted-r 1 k (maskOf k p) (maskOf-lt k p)) in
-      let s = rw e at (maskOf-suc k p) in
-      rw add-one (omega arith)
-
-  pub mask-skip : p k ≡ false → maskOf (k + 1) p ≡ maskOf k p
-  mask-skip e = let s = rw e at (maskOf-suc k p) in rw add-one (omega arith)
-
--- a row past the field's settings is empty
-pub mask-false : (k : ℕ) (p : ℕ → Bool) → ((v : ℕ) → p v ≡ false) → maskOf k p ≡ 0
-mask-false k p h = bit-ext _ 0 (λ v. bit-maskOf k p v ∙ rw (h v) (off (ltb v k)) ∙ sym (bit-of-zero v))
-  where
-    off : (b : Bool) → (b && false) ≡ false
-    off true = refl
-    off false = refl
+use Rattle.network.specs.RuleRows.{RuleStored}
 
 -- ---- one rule more
 
@@ -140,9 +117,6 @@ module _ (xs : List ℕ) (a : Accepted xs) (r : ℕ) (h : r < rulesOf xs) where
         (or-at (runs xs (secondOf xs r) e r) _ q))
         (λ q. or-r (runs xs (secondOf xs r) e r) _ (ap (λ (x : ℕ). runs xs x (secondOf xs r) r) (eqb-true e (firstOf xs r) q) ∙ runs-here))
 
-    eq-cases : (x y : ℕ) → (x ≡ y) ⊎ (x ≡ y → ⊥)
-    eq-cases x y = ⊎-elim (λ q. inl (eqb-true x y q)) (λ q. inr (eqb-false x y q)) (bool-cases (eqb x y))
-
     first-low : firstOf xs r < length joined
     first-low = let b = rule-bounds in let l = b .0 in let m = b .1 in let n = t .marks in omega arith
 
@@ -179,30 +153,41 @@ module _ (xs : List ℕ) (a : Accepted xs) (r : ℕ) (h : r < rulesOf xs) where
 -- ---- the loop over the rules
 
 -- The tables with the first r rules in them, the next rule standing at `place`.
-pub record Filled (xs forward0 turned0 : List ℕ) (r place : ℕ) (joined forward turned : List ℕ) : Type 0 where
+pub record Filled (xs rows0 : List ℕ) (r place : ℕ) (joined rows : List ℕ) : Type 0 where
   pub accepted : Accepted xs
   pub within : r ≤ rulesOf xs
   pub at : place ≡ ruleStart xs r
-  pub forward-sized : length forward ≡ length forward0
-  pub turned-sized : length turned ≡ length turned0
-  pub holds : Holds xs r joined forward turned
+  pub room : bothTables ≤ length rows
+  pub sized : length rows ≡ length rows0
+  pub holds : Holds xs r joined (forwardOf rows) (turnedOf rows)
 
-module _ (xs forward0 turned0 : List ℕ) where
-  pub filled-start : (place : ℕ) → Accepted xs → tableWords ≤ length forward0 → tableWords ≤ length turned0 → place ≡ ruleStart xs 0 → Filled xs forward0 turned0 0 place (replicate 24 0) forward0 turned0
-  filled-start place a b c e = record { accepted = a; within = omega arith; at = e; forward-sized = refl; turned-sized = refl; holds = holds-start xs forward0 turned0 b c }
+module _ (xs rows0 : List ℕ) where
+  pub filled-start : (place : ℕ) → Accepted xs → bothTables ≤ length rows0 → place ≡ ruleStart xs 0 → Filled xs rows0 0 place (replicate 24 0) rows0
+  filled-start place a b e = record {
+    accepted = a;
+    within = omega arith;
+    at = e;
+    room = b;
+    sized = refl;
+    holds = let l = tables-room rows0 b in holds-start xs _ _ (l .0) (l .1);
+  }
 
-  module _ (r place : ℕ) (joined forward turned : List ℕ) (p : Filled xs forward0 turned0 r place joined forward turned) (h : r < rulesOf xs) where
+  module _ (r place : ℕ) (joined rows : List ℕ) (p : Filled xs rows0 r place joined rows) (h : r < rulesOf xs) where
     pub rule-at : RuleAt xs r place
     rule-at = record { accepted = p .accepted; within = h; at = p .at }
 
-    pub filled-next : (i j x y next : ℕ) (forward' turned' : List ℕ) → i ≡ firstOf xs r → j ≡ secondOf xs r → x ≡ 2 ^ j → y ≡ 2 ^ i → next ≡ ruleStart xs (r + 1)
-        → Stored forward (slotOf xs r * 24) (rowOf xs r) 24 forward' → Stored turned (slotOf xs r * 24) (columnOf xs r) 24 turned'
-        → Filled xs forward0 turned0 (r + 1) next (set (set joined i (bitOr (getD joined i 0) x)) j (bitOr (getD (set joined i (bitOr (getD joined i 0) x)) j 0) y)) forward' turned'
-    filled-next i j x y next forward' turned' a b d e k s t = record {
+    -- its fields have a place among the joined fields
+    pub joined-room : (i j : ℕ) → i ≡ firstOf xs r → j ≡ secondOf xs r → (i < 24) × (j < 24) × (length joined ≡ 24)
+    joined-room i j a b = let m = rule-bounds xs (p .accepted) r h in let k = m .0 in let l = m .1 in (omega arith, omega arith, p .holds .marks)
+
+    pub filled-next : (i j x y next : ℕ) (rows' : List ℕ) → i ≡ firstOf xs r → j ≡ secondOf xs r → x ≡ 2 ^ j → y ≡ 2 ^ i → next ≡ ruleStart xs (r + 1)
+        → RuleStored xs r rows rows'
+        → Filled xs rows0 (r + 1) next (set (set joined i (bitOr (getD joined i 0) x)) j (bitOr (getD (set joined i (bitOr (getD joined i 0) x)) j 0) y)) rows'
+    filled-next i j x y next rows' a b d e k s = record {
       accepted = p .accepted;
       within = omega arith;
       at = k;
-      forward-sized = s .sized ∙ p .forward-sized;
-      turned-sized = t .sized ∙ p .turned-sized;
-      holds = rw (d, e, a, b) (holds-next xs (p .accepted) r h joined forward turned (p .holds) forward' turned' s t);
+      room = let z = s .sized in let l = p .room in omega arith;
+      sized = s .sized ∙ p .sized;
+      holds = rw (d, e, a, b) (holds-next xs (p .accepted) r h joined _ _ (p .holds) _ _ (s .forward) (s .turned));
     }

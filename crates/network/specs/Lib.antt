@@ -1,9 +1,11 @@
 pub mod Slots
 pub mod Tables
 pub mod Stored
+pub mod Turned
 pub mod SheetProblem
 pub mod Built
-pub mod Filling
 pub mod RuleFields
+pub mod RuleRows
+pub mod Filling
 pub mod Hoods
 pub mod Network

@@ -11,7 +11,7 @@ use Rattle.sheet.specs.Judge.{Accepted}
 use Rattle.sheet.specs.Parts.{fieldsOf, fieldStart, countOf, rulesOf, ruleStart, firstOf, secondOf, kindOf, numberOf, settingOf, ruleAllows, FieldAt, RuleAt}
 use Rattle.sheet.specs.Kinds.{allows}
 use Rattle.sheet.specs.Facts.{Facts, facts}
-use Rattle.network.specs.Filling.{mask-false}
+use Rattle.masks.specs.Loops.{mask-false, mask-cong, mask-self}
 use Rattle.network.specs.Built.{rowOf, columnOf}
 
 -- rule r at its place, its fields i and j, and where their counts stand

@@ -11,9 +11,23 @@ use Rattle.masks.specs.Bits.{bit}
 use Rattle.consistency.specs.Problem.{Problem, Symmetric}
 use Rattle.network.specs.Slots.{slot, slot-bound}
 
--- the words of one table
+-- the words of one table, and of both
 abbrev pub tableWords : ℕ
 tableWords = 6624
+
+abbrev pub bothTables : ℕ
+bothTables = 13248
+
+-- The two tables in one list of words: the forward one first, the turned one after it.
+unfoldable pub forwardOf : List ℕ → List ℕ
+forwardOf rows = take tableWords rows
+
+unfoldable pub turnedOf : List ℕ → List ℕ
+turnedOf rows = drop tableWords rows
+
+pub tables-room : (rows : List ℕ) → bothTables ≤ length rows → (tableWords ≤ length (forwardOf rows)) × (tableWords ≤ length (turnedOf rows))
+unfolding forwardOf turnedOf
+tables-room rows h = (simp length-take (omega arith), simp length-drop (omega arith))
 
 -- The 24 rows of the settings of g towards f: row v has the positions of f that g's position v is allowed beside. They are in the forward
 -- table where g is the lower field, and else in the turned one.

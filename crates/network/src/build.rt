@@ -2,7 +2,7 @@
 ghost use Prim.Native.Nat.{_≤_};
 ghost use lib.ListN.{length};
 ghost use Rattle.sheet.specs.Judge.{Accepted};
-ghost use Rattle.network.specs.Tables.{tableWords};
+ghost use Rattle.network.specs.Tables.{bothTables, forwardOf, turnedOf};
 ghost use Rattle.network.specs.Network.{NetworkOf};
 use super::fill::fill;
 use super::hoods::neighbourhoods;
@@ -15,14 +15,14 @@ pub struct Network {
     pub hood: [u32; 24],
 }
 
-// Fills both tables from an accepted list of numbers.
-pub fn build(numbers: &[u32], forward: &mut [u32], turned: &mut [u32]) -> Network
-    requires { ⌜ Accepted (now numbers) × (tableWords ≤ length (now forward)) × (tableWords ≤ length (now turned)) ⌝ }
-    ensures { λ r. ⌜ NetworkOf (now (numbers .entry)) (r .fields) (r .joined) (r .hood) (now (forward .exit)) (now (turned .exit)) ⌝ }
+// Fills both tables from an accepted list of numbers: the forward one at the front of `rows`, the turned one after it.
+pub fn build(numbers: &[u32], rows: &mut [u32]) -> Network
+    requires { ⌜ Accepted (now numbers) × (bothTables ≤ length (now rows)) ⌝ }
+    ensures { λ r. ⌜ NetworkOf (now (numbers .entry)) (r .fields) (r .joined) (r .hood) (forwardOf (now (rows .exit))) (turnedOf (now (rows .exit))) ⌝ }
 {
     let n = parts::fields(numbers);
     let reach = parts::reach(numbers);
-    let joined = fill(numbers, forward, turned);
+    let joined = fill(numbers, rows);
     let hood = neighbourhoods(n, &joined, reach);
     Network {
         fields: n,

@@ -44,12 +44,20 @@ fn fields_end(numbers: &[u32]) -> usize
     field_start(numbers, fields(numbers))
 }
 
+// The count of field f's settings, which stands at a place.
+pub fn count_at(numbers: &[u32], f: usize, place: usize) -> usize
+    requires { ⌜ FieldAt (now numbers) f place ⌝ }
+    ensures { λ r. ⌜ r ≡ countOf (now (numbers .entry)) f ⌝ }
+{
+    at(numbers, place) as usize
+}
+
 // The count of field f's settings.
 pub fn count(numbers: &[u32], f: usize) -> usize
     requires { ⌜ Field (now numbers) f ⌝ }
     ensures { λ r. ⌜ r ≡ countOf (now (numbers .entry)) f ⌝ }
 {
-    at(numbers, field_start(numbers, f)) as usize
+    count_at(numbers, f, field_start(numbers, f))
 }
 
 // The setting at position v of field f, whose count stands at a place.

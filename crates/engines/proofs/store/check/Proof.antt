@@ -53,8 +53,8 @@ test-requires c κs = (c .before .before .before .before .before .before .pre .0
 returns-2 : tie.Need-returns-2
 returns-2 c = record { passed = sym (not-true (c .before .test .result) (c .if4 .taken)) ∙ c .before .test .ensures .passed; store = c .before .before .before .before .before .before .before .before .pre .0 .1 }
 
-remember-requires : tie.Need-remember-requires
-remember-requires c κs = let l = place-bound _ _ _ _ _ (c .before .before .before .before .before .before .before .before .before .before .before .pre .0 .0) _ _ (c .before .before .before .before .before .before .before .before .before .before .before .pre .1 .2) in memory-bound _ _ _ _ (c .before .before .before .before .before .before .before .before .before .before .before .pre .0 .1) _ _ (l .1) (l .2)
+store-requires : tie.Need-store-requires
+store-requires c κs = let l = place-bound _ _ _ _ _ (c .before .before .before .before .before .before .before .before .before .before .before .pre .0 .0) _ _ (c .before .before .before .before .before .before .before .before .before .before .before .pre .1 .2) in memory-bound _ _ _ _ (c .before .before .before .before .before .before .before .before .before .before .before .pre .0 .1) _ _ (l .1) (l .2)
 
 one-bit-requires : tie.Need-one-bit-requires
 one-bit-requires c κs = let l = place-bound _ _ _ _ _ (c .before .before .before .before .before .before .before .before .before .before .before .before .before .before .pre .0 .0) _ _ (c .before .before .before .before .before .before .before .before .before .before .before .before .before .before .pre .1 .2) .2 in omega arith
@@ -69,7 +69,7 @@ element-write-known : tie.Need-element-write-known
 element-write-known c = place-bound _ _ _ _ _ (c .before .before .before .before .before .before .before .before .before .before .before .before .before .before .before .before .pre .0 .0) _ _ (c .before .before .before .before .before .before .before .before .before .before .before .before .before .before .before .before .pre .1 .2) .1
 
 same-length-2 : tie.Need-same-length-2
-same-length-2 c = c .before .before .before .before .remember .ensures .sized
+same-length-2 c = c .before .before .before .before .store .ensures .sized
 
 returns-3 : tie.Need-returns-3
 returns-3 c =
@@ -78,7 +78,7 @@ returns-3 c =
     let l = place-bound _ _ _ _ _ (c .before .before .before .before .before .before .before .before .before .before .before .before .before .before .before .before .pre .0 .0) _ _ (c .before .before .before .before .before .before .before .before .before .before .before .before .before .before .before .before .pre .1 .2) in
     record {
       passed = sym ok ∙ d .passed;
-      store = rw (c .before .one-bit .ensures) (store-add _ _ _ _ (c .before .before .before .before .before .before .before .before .before .before .before .before .before .before .before .before .pre .0 .1) _ _ (l .1) (l .2) _ (d .sized ∙ c .before .before .before .before .before .before .before .before .before .before .before .before .before .before .before .before .pre .0 .0 .masks .long) (rw (d .rest ok) (left-shows _ _ _ _ _ (sym (d .passed) ∙ ok))) _ (c .before .before .before .before .remember .ensures));
+      store = rw (c .before .one-bit .ensures) (store-add _ _ _ _ (c .before .before .before .before .before .before .before .before .before .before .before .before .before .before .before .before .pre .0 .1) _ _ (l .1) (l .2) _ (d .sized ∙ c .before .before .before .before .before .before .before .before .before .before .before .before .before .before .before .before .pre .0 .0 .masks .long) (rw (d .rest ok) (left-shows _ _ _ _ _ (sym (d .passed) ∙ ok))) _ (c .before .before .before .before .store .ensures));
     }
 
 returns-4 : tie.Need-returns-4
@@ -101,7 +101,7 @@ check-spec =
     returns
     test-requires
     returns-2
-    remember-requires
+    store-requires
     one-bit-requires
     mul-known
     element-copy-out-known

@@ -1,4 +1,3 @@
--- `build` fills the tables and then makes the neighbourhoods.
 use Rattle.network.specs.Network.{fields-few, joins-below, network-of}
 use borrow.Author.Needs.{needs}
 use Rattle.network.proofs.build.build.Statement.{statement}
@@ -14,19 +13,13 @@ fill-requires : tie.Need-fill-requires
 fill-requires c κs = search needs
 
 neighbourhoods-requires : tie.Need-neighbourhoods-requires
-neighbourhoods-requires c κs = (
-  fields-few _ (c .before .before .before .before .before .before .before .before .before .before .before .before .before .pre .0) _ _ _ (c .before .before .before .before .before .fill .ensures) _ (c .before .before .before .before .before .before .before .before .before .fields .ensures),
-  joins-below _ (c .before .before .before .before .before .before .before .before .before .before .before .before .before .pre .0) _ _ _ (c .before .before .before .before .before .fill .ensures) _ (c .before .before .before .before .before .before .before .before .before .fields .ensures),
-)
+neighbourhoods-requires c κs = (fields-few _ (c .before .before .before .before .before .before .before .before .before .pre .0) _ _ _ (c .before .before .before .fill .ensures) _ (c .before .before .before .before .before .before .fields .ensures), joins-below _ (c .before .before .before .before .before .before .before .before .before .pre .0) _ _ _ (c .before .before .before .fill .ensures) _ (c .before .before .before .before .before .before .fields .ensures))
 
 same-length : tie.Need-same-length
 same-length c = search needs
 
-same-length-2 : tie.Need-same-length-2
-same-length-2 c = search needs
-
 returns : tie.Need-returns
-returns c = network-of _ (c .before .before .before .before .before .before .before .before .before .before .before .before .before .before .pre .0) _ _ _ (c .before .before .before .before .before .before .fill .ensures) _ _ _ (c .before .before .before .before .before .before .before .before .before .before .fields .ensures) (c .before .before .before .before .before .before .before .before .before .reach .ensures) (c .neighbourhoods .ensures)
+returns c = network-of _ (c .before .before .before .before .before .before .before .before .before .before .pre .0) _ _ _ (c .before .before .before .before .fill .ensures) _ _ _ (c .before .before .before .before .before .before .before .fields .ensures) (c .before .before .before .before .before .before .reach .ensures) (c .neighbourhoods .ensures)
 
 pub build-spec : {M : Type 1} → statement M
 build-spec =
@@ -37,5 +30,4 @@ build-spec =
     fill-requires
     neighbourhoods-requires
     same-length
-    same-length-2
     returns)

@@ -1,69 +1,67 @@
--- `fill` goes through the rules.
-use mathlib.Core.Path.{_≡_, sym, _∙_}
-use Prim.Native.Nat.{ℕ, _-_}
+use mathlib.Core.Path.{_≡_}
+use Prim.Native.Nat.{_-_}
 use borrow.Author.Needs.{needs}
 use Rattle.sheet.specs.Parts.{rulesOf}
-use Rattle.network.specs.RuleFields.{fields-low}
-use Rattle.network.specs.Filling.{Filled, filled-start, rule-at, filled-next}
+use Rattle.network.specs.Filling.{Filled, filled-start, rule-at, joined-room, filled-next}
 use Rattle.network.proofs.fill.fill.Statement.{statement}
 use Rattle.network.proofs.fill.fill.Tie as tie
 
 abbrev Inv-loop : tie.InvT-loop
-Inv-loop numbers forward₀ turned₀ joined₀ n place₀ r₀ forward turned joined place r = Filled numbers forward₀ turned₀ r place joined forward turned
+Inv-loop numbers rows₀ joined₀ n place₀ r₀ rows joined place r = Filled numbers rows₀ r place joined rows
 
 abbrev μ-loop : tie.MeasureT-loop
-μ-loop numbers forward₀ turned₀ joined₀ n place₀ r₀ forward turned joined place r = n - r
+μ-loop numbers rows₀ joined₀ n place₀ r₀ rows joined place r = n - r
 
 rules-requires : tie.Need-rules-requires Inv-loop μ-loop
-rules-requires c κs = c .before .before .before .pre .0
+rules-requires c κs = c .before .before .pre .0
 
 rules-start-requires : tie.Need-rules-start-requires Inv-loop μ-loop
-rules-start-requires c κs = c .before .before .before .before .pre .0
+rules-start-requires c κs = c .before .before .before .pre .0
 
 loop-holds : tie.Need-loop-holds Inv-loop μ-loop
-loop-holds c = filled-start _ _ _ _ (c .before .before .before .before .before .pre .0) (c .before .before .before .before .before .pre .1) (c .before .before .before .before .before .pre .2) (c .rules-start .ensures)
+loop-holds c = filled-start _ _ _ (c .before .before .before .before .pre .0) (c .before .before .before .before .pre .1) (c .rules-start .ensures)
 
 first-requires : tie.Need-first-requires Inv-loop μ-loop
-first-requires c κs = rule-at _ _ _ _ _ _ _ _ (c .before .loop .inv) (rw (c .before .before .before .rules .ensures) at (c .loop-test .taken))
+first-requires c κs = rule-at _ _ _ _ _ _ (c .before .loop .inv) (rw (c .before .before .before .rules .ensures) at (c .loop-test .taken))
 
 second-requires : tie.Need-second-requires Inv-loop μ-loop
-second-requires c κs = rule-at _ _ _ _ _ _ _ _ (c .before .before .loop .inv) (rw (c .before .before .before .before .rules .ensures) at (c .before .loop-test .taken))
+second-requires c κs = rule-at _ _ _ _ _ _ (c .before .before .loop .inv) (rw (c .before .before .before .before .rules .ensures) at (c .before .loop-test .taken))
 
 fill-rule-requires : tie.Need-fill-rule-requires Inv-loop μ-loop
-fill-rule-requires c κs = (rule-at _ _ _ _ _ _ _ _ (c .before .before .before .before .before .loop .inv) (rw (c .before .before .before .before .before .before .before .rules .ensures) at (c .before .before .before .before .loop-test .taken)), c .before .before .before .before .before .loop .inv .holds .forwards, c .before .before .before .before .before .loop .inv .holds .turneds)
+fill-rule-requires c κs = (rule-at _ _ _ _ _ _ (c .before .before .before .before .loop .inv) (rw (c .before .before .before .before .before .before .rules .ensures) at (c .before .before .before .loop-test .taken)), c .before .before .first .ensures, c .before .second .ensures, c .before .before .before .before .loop .inv .room)
 
 mul-joined : tie.Need-mul-joined Inv-loop μ-loop
-mul-joined c = let b = fields-low _ _ _ _ _ (rule-at _ _ _ _ _ _ _ _ (c .before .before .before .before .before .before .before .before .before .before .loop .inv) (rw (c .before .before .before .before .before .before .before .before .before .before .before .before .rules .ensures) at (c .before .before .before .before .before .before .before .before .before .loop-test .taken))) (c .before .before .before .before .before .before .before .before .first .ensures) (c .before .before .before .before .before .before .before .second .ensures) in let k = b .0 in let l = b .1 in let m = c .before .before .before .before .before .before .before .before .before .before .loop .inv .holds .marks in search needs
+mul-joined c = let b = joined-room _ _ _ _ _ _ (c .before .before .before .before .before .before .before .loop .inv) (rw (c .before .before .before .before .before .before .before .before .before .rules .ensures) at (c .before .before .before .before .before .before .loop-test .taken)) _ _ (c .before .before .before .before .before .first .ensures) (c .before .before .before .before .second .ensures) in let x = b .0 in let y = b .1 in let z = b .2 in search needs
 
 array-read-joined : tie.Need-array-read-joined Inv-loop μ-loop
-array-read-joined c = let b = fields-low _ _ _ _ _ (rule-at _ _ _ _ _ _ _ _ (c .before .before .before .before .before .before .before .before .before .before .loop .inv) (rw (c .before .before .before .before .before .before .before .before .before .before .before .before .rules .ensures) at (c .before .before .before .before .before .before .before .before .before .loop-test .taken))) (c .before .before .before .before .before .before .before .before .first .ensures) (c .before .before .before .before .before .before .before .second .ensures) in let k = b .0 in let l = b .1 in let m = c .before .before .before .before .before .before .before .before .before .before .loop .inv .holds .marks in search needs
+array-read-joined c = let b = joined-room _ _ _ _ _ _ (c .before .before .before .before .before .before .before .loop .inv) (rw (c .before .before .before .before .before .before .before .before .before .rules .ensures) at (c .before .before .before .before .before .before .loop-test .taken)) _ _ (c .before .before .before .before .before .first .ensures) (c .before .before .before .before .second .ensures) in let x = b .0 in let y = b .1 in let z = b .2 in search needs
 
 one-bit-requires : tie.Need-one-bit-requires Inv-loop μ-loop
-one-bit-requires c κs = let b = fields-low _ _ _ _ _ (rule-at _ _ _ _ _ _ _ _ (c .before .before .before .before .before .before .before .before .before .before .loop .inv) (rw (c .before .before .before .before .before .before .before .before .before .before .before .before .rules .ensures) at (c .before .before .before .before .before .before .before .before .before .loop-test .taken))) (c .before .before .before .before .before .before .before .before .first .ensures) (c .before .before .before .before .before .before .before .second .ensures) in let k = b .0 in let l = b .1 in let m = c .before .before .before .before .before .before .before .before .before .before .loop .inv .holds .marks in search needs
+one-bit-requires c κs = let b = joined-room _ _ _ _ _ _ (c .before .before .before .before .before .before .before .loop .inv) (rw (c .before .before .before .before .before .before .before .before .before .rules .ensures) at (c .before .before .before .before .before .before .loop-test .taken)) _ _ (c .before .before .before .before .before .first .ensures) (c .before .before .before .before .second .ensures) in let x = b .0 in let y = b .1 in let z = b .2 in search needs
 
 mul-joined-2 : tie.Need-mul-joined-2 Inv-loop μ-loop
-mul-joined-2 c = let b = fields-low _ _ _ _ _ (rule-at _ _ _ _ _ _ _ _ (c .before .before .before .before .before .before .before .before .before .before .before .loop .inv) (rw (c .before .before .before .before .before .before .before .before .before .before .before .before .before .rules .ensures) at (c .before .before .before .before .before .before .before .before .before .before .loop-test .taken))) (c .before .before .before .before .before .before .before .before .before .first .ensures) (c .before .before .before .before .before .before .before .before .second .ensures) in let k = b .0 in let l = b .1 in let m = c .before .before .before .before .before .before .before .before .before .before .before .loop .inv .holds .marks in search needs
+mul-joined-2 c = let b = joined-room _ _ _ _ _ _ (c .before .before .before .before .before .before .before .before .loop .inv) (rw (c .before .before .before .before .before .before .before .before .before .before .rules .ensures) at (c .before .before .before .before .before .before .before .loop-test .taken)) _ _ (c .before .before .before .before .before .before .first .ensures) (c .before .before .before .before .before .second .ensures) in let x = b .0 in let y = b .1 in let z = b .2 in search needs
 
 array-write-joined : tie.Need-array-write-joined Inv-loop μ-loop
-array-write-joined c = let b = fields-low _ _ _ _ _ (rule-at _ _ _ _ _ _ _ _ (c .before .before .before .before .before .before .before .before .before .before .before .loop .inv) (rw (c .before .before .before .before .before .before .before .before .before .before .before .before .before .rules .ensures) at (c .before .before .before .before .before .before .before .before .before .before .loop-test .taken))) (c .before .before .before .before .before .before .before .before .before .first .ensures) (c .before .before .before .before .before .before .before .before .second .ensures) in let k = b .0 in let l = b .1 in let m = c .before .before .before .before .before .before .before .before .before .before .before .loop .inv .holds .marks in search needs
+array-write-joined c = let b = joined-room _ _ _ _ _ _ (c .before .before .before .before .before .before .before .before .loop .inv) (rw (c .before .before .before .before .before .before .before .before .before .before .rules .ensures) at (c .before .before .before .before .before .before .before .loop-test .taken)) _ _ (c .before .before .before .before .before .before .first .ensures) (c .before .before .before .before .before .second .ensures) in let x = b .0 in let y = b .1 in let z = b .2 in search needs
 
 mul-joined-3 : tie.Need-mul-joined-3 Inv-loop μ-loop
-mul-joined-3 c = let b = fields-low _ _ _ _ _ (rule-at _ _ _ _ _ _ _ _ (c .before .before .before .before .before .before .before .before .before .before .before .loop .inv) (rw (c .before .before .before .before .before .before .before .before .before .before .before .before .before .rules .ensures) at (c .before .before .before .before .before .before .before .before .before .before .loop-test .taken))) (c .before .before .before .before .before .before .before .before .before .first .ensures) (c .before .before .before .before .before .before .before .before .second .ensures) in let k = b .0 in let l = b .1 in let m = c .before .before .before .before .before .before .before .before .before .before .before .loop .inv .holds .marks in search needs
+mul-joined-3 c = let b = joined-room _ _ _ _ _ _ (c .before .before .before .before .before .before .before .before .loop .inv) (rw (c .before .before .before .before .before .before .before .before .before .before .rules .ensures) at (c .before .before .before .before .before .before .before .loop-test .taken)) _ _ (c .before .before .before .before .before .before .first .ensures) (c .before .before .before .before .before .second .ensures) in let x = b .0 in let y = b .1 in let z = b .2 in search needs
 
 array-read-joined-2 : tie.Need-array-read-joined-2 Inv-loop μ-loop
-array-read-joined-2 c = let b = fields-low _ _ _ _ _ (rule-at _ _ _ _ _ _ _ _ (c .before .before .before .before .before .before .before .before .before .before .before .loop .inv) (rw (c .before .before .before .before .before .before .before .before .before .before .before .before .before .rules .ensures) at (c .before .before .before .before .before .before .before .before .before .before .loop-test .taken))) (c .before .before .before .before .before .before .before .before .before .first .ensures) (c .before .before .before .before .before .before .before .before .second .ensures) in let k = b .0 in let l = b .1 in let m = c .before .before .before .before .before .before .before .before .before .before .before .loop .inv .holds .marks in search needs
+array-read-joined-2 c = let b = joined-room _ _ _ _ _ _ (c .before .before .before .before .before .before .before .before .loop .inv) (rw (c .before .before .before .before .before .before .before .before .before .before .rules .ensures) at (c .before .before .before .before .before .before .before .loop-test .taken)) _ _ (c .before .before .before .before .before .before .first .ensures) (c .before .before .before .before .before .second .ensures) in let x = b .0 in let y = b .1 in let z = b .2 in search needs
 
 one-bit-requires-2 : tie.Need-one-bit-requires-2 Inv-loop μ-loop
-one-bit-requires-2 c κs = let b = fields-low _ _ _ _ _ (rule-at _ _ _ _ _ _ _ _ (c .before .before .before .before .before .before .before .before .before .before .before .loop .inv) (rw (c .before .before .before .before .before .before .before .before .before .before .before .before .before .rules .ensures) at (c .before .before .before .before .before .before .before .before .before .before .loop-test .taken))) (c .before .before .before .before .before .before .before .before .before .first .ensures) (c .before .before .before .before .before .before .before .before .second .ensures) in let k = b .0 in let l = b .1 in let m = c .before .before .before .before .before .before .before .before .before .before .before .loop .inv .holds .marks in search needs
+one-bit-requires-2 c κs = let b = joined-room _ _ _ _ _ _ (c .before .before .before .before .before .before .before .before .loop .inv) (rw (c .before .before .before .before .before .before .before .before .before .before .rules .ensures) at (c .before .before .before .before .before .before .before .loop-test .taken)) _ _ (c .before .before .before .before .before .before .first .ensures) (c .before .before .before .before .before .second .ensures) in let x = b .0 in let y = b .1 in let z = b .2 in search needs
 
 mul-joined-4 : tie.Need-mul-joined-4 Inv-loop μ-loop
-mul-joined-4 c = let b = fields-low _ _ _ _ _ (rule-at _ _ _ _ _ _ _ _ (c .before .before .before .before .before .before .before .before .before .before .before .before .loop .inv) (rw (c .before .before .before .before .before .before .before .before .before .before .before .before .before .before .rules .ensures) at (c .before .before .before .before .before .before .before .before .before .before .before .loop-test .taken))) (c .before .before .before .before .before .before .before .before .before .before .first .ensures) (c .before .before .before .before .before .before .before .before .before .second .ensures) in let k = b .0 in let l = b .1 in let m = c .before .before .before .before .before .before .before .before .before .before .before .before .loop .inv .holds .marks in search needs
+mul-joined-4 c = let b = joined-room _ _ _ _ _ _ (c .before .before .before .before .before .before .before .before .before .loop .inv) (rw (c .before .before .before .before .before .before .before .before .before .before .before .rules .ensures) at (c .before .before .before .before .before .before .before .before .loop-test .taken)) _ _ (c .before .before .before .before .before .before .before .first .ensures) (c .before .before .before .before .before .before .second .ensures) in let x = b .0 in let y = b .1 in let z = b .2 in search needs
 
 array-write-joined-2 : tie.Need-array-write-joined-2 Inv-loop μ-loop
-array-write-joined-2 c = let b = fields-low _ _ _ _ _ (rule-at _ _ _ _ _ _ _ _ (c .before .before .before .before .before .before .before .before .before .before .before .before .loop .inv) (rw (c .before .before .before .before .before .before .before .before .before .before .before .before .before .before .rules .ensures) at (c .before .before .before .before .before .before .before .before .before .before .before .loop-test .taken))) (c .before .before .before .before .before .before .before .before .before .before .first .ensures) (c .before .before .before .before .before .before .before .before .before .second .ensures) in let k = b .0 in let l = b .1 in let m = c .before .before .before .before .before .before .before .before .before .before .before .before .loop .inv .holds .marks in search needs
+array-write-joined-2 c = let b = joined-room _ _ _ _ _ _ (c .before .before .before .before .before .before .before .before .before .loop .inv) (rw (c .before .before .before .before .before .before .before .before .before .before .before .rules .ensures) at (c .before .before .before .before .before .before .before .before .loop-test .taken)) _ _ (c .before .before .before .before .before .before .before .first .ensures) (c .before .before .before .before .before .before .second .ensures) in let x = b .0 in let y = b .1 in let z = b .2 in search needs
 
 after-rule-requires : tie.Need-after-rule-requires Inv-loop μ-loop
-after-rule-requires c κs = rule-at _ _ _ _ _ _ _ _ (c .before .before .before .before .before .before .before .before .before .before .before .before .loop .inv) (rw (c .before .before .before .before .before .before .before .before .before .before .before .before .before .before .rules .ensures) at (c .before .before .before .before .before .before .before .before .before .before .before .loop-test .taken))
+after-rule-requires c κs = rule-at _ _ _ _ _ _ (c .before .before .before .before .before .before .before .before .before .loop .inv) (rw (c .before .before .before .before .before .before .before .before .before .before .before .rules .ensures) at (c .before .before .before .before .before .before .before .before .loop-test .taken))
 
 add-r : tie.Need-add-r Inv-loop μ-loop
 add-r c = search needs
@@ -72,17 +70,14 @@ loop-less : tie.Need-loop-less Inv-loop μ-loop
 loop-less c = search needs
 
 loop-again : tie.Need-loop-again Inv-loop μ-loop
-loop-again c = filled-next _ _ _ _ _ _ _ _ (c .before .before .before .before .before .before .before .before .before .before .before .before .before .loop .inv) (rw (c .before .before .before .before .before .before .before .before .before .before .before .before .before .before .before .rules .ensures) at (c .before .before .before .before .before .before .before .before .before .before .before .before .loop-test .taken)) _ _ _ _ _ _ _
-    (c .before .before .before .before .before .before .before .before .before .before .before .first .ensures) (c .before .before .before .before .before .before .before .before .before .before .second .ensures) (c .before .before .one-bit .ensures) (c .before .one-bit2 .ensures) (c .after-rule .ensures) (c .before .before .before .before .before .before .before .fill-rule .ensures .0) (c .before .before .before .before .before .before .before .fill-rule .ensures .1)
+loop-again c = filled-next _ _ _ _ _ _ (c .before .before .before .before .before .before .before .before .before .before .loop .inv) (rw (c .before .before .before .before .before .before .before .before .before .before .before .before .rules .ensures) at (c .before .before .before .before .before .before .before .before .before .loop-test .taken)) _ _ _ _ _ _
+    (c .before .before .before .before .before .before .before .before .first .ensures) (c .before .before .before .before .before .before .before .second .ensures) (c .before .before .one-bit .ensures) (c .before .one-bit2 .ensures) (c .after-rule .ensures) (c .before .before .before .before .before .fill-rule .ensures)
 
 same-length : tie.Need-same-length Inv-loop μ-loop
-same-length c = c .before .loop .inv .forward-sized
-
-same-length-2 : tie.Need-same-length-2 Inv-loop μ-loop
-same-length-2 c = c .before .loop .inv .turned-sized
+same-length c = c .before .loop .inv .sized
 
 returns : tie.Need-returns Inv-loop μ-loop
-returns c = let e : c .before .loop .r ≡ rulesOf (c .before .before .before .before .before .before .before .args .numbers .now) = (let a = c .before .before .before .rules .ensures in let b = c .before .loop .inv .within in search needs) in rw e at (c .before .loop .inv .holds)
+returns c = let e : c .before .loop .r ≡ rulesOf (c .before .before .before .before .before .before .args .numbers .now) = (let a = c .before .before .before .rules .ensures in let b = c .before .loop .inv .within in search needs) in rw e at (c .before .loop .inv .holds)
 
 pub fill-spec : {M : Type 1} → statement M
 fill-spec =
@@ -111,5 +106,4 @@ fill-spec =
     loop-less
     loop-again
     same-length
-    same-length-2
     returns)

@@ -1,0 +1,21 @@
+// Finding the offers of a set, for the benchmark of the engines: a slice is a pointer and a length.
+ghost use lib.ListN.{take};
+ghost use Rattle.sheet.specs.Parts.{reachOf};
+ghost use Rattle.network.specs.SheetProblem.{sheetProblem};
+ghost use Rattle.engines.specs.Engine.{Offered};
+ghost use Rattle.offering.specs.Offering.{OfferAsks};
+
+#[no_mangle]
+pub extern "C" fn engines_offers(
+    m: &mut [u32; 24],
+    engine: u32,
+    order: &[u8],
+    count: usize,
+    rows: &mut [u32],
+    memory: &mut [u32],
+) -> bool
+    requires { ⌜ OfferAsks (take count (now memory)) count (now order) (now m) (now rows) (now memory) ⌝ }
+    ensures { λ r. ⌜ Offered (sheetProblem (take count (now (memory .entry)))) (reachOf (take count (now (memory .entry)))) (now (m .entry)) r (now (m .exit)) ⌝ }
+{
+    offering::offer(m, engine, order, count, rows, memory)
+}

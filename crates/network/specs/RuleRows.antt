@@ -1,0 +1,86 @@
+-- The rows of one rule: as they are made, and as they are stored in both tables. Assumes nothing.
+use mathlib.Core.Path.{_≡_, refl, sym, ap, _∙_}
+use mathlib.Core.Logic.{⊎-elim}
+use mathlib.Core.Bool.{Bool, true, false, _&&_}
+use mathlib.Core.List.{List}
+use Prim.Native.Nat.{ℕ, _+_, _*_, _≤_, _<_}
+use native.Mathlib.Nat.{eq-or-lt-of-le}
+use native.Mathlib.Omega.{arith}
+use lib.Dec.{ltb}
+use lib.ListN.{length, getD, set, replicate, length-set, length-replicate}
+use lib.Seq.{getD-set-same, getD-set-other}
+use borrow.Author.Tests.{lt-ltb, ltb-true, ltb-false, eq-eqb}
+use Rattle.masks.specs.Tests.{bool-cases}
+use Rattle.masks.specs.Bits.{bit}
+use Rattle.masks.specs.Masks.{maskOf, bit-maskOf}
+use Rattle.masks.specs.Loops.{mask-cong, mask-self}
+use Rattle.masks.specs.Sets.{getD-zeros}
+use Rattle.sheet.specs.Pick.{pick, pick-true}
+use Rattle.sheet.specs.Parts.{countOf, firstOf, secondOf, kindOf, numberOf, valueOf, ruleAllows}
+use Rattle.sheet.specs.Facts.{facts}
+use Rattle.network.specs.Slots.{slot, slot-bound}
+use Rattle.network.specs.Tables.{tableWords, bothTables, forwardOf, turnedOf, tables-room}
+use Rattle.network.specs.Stored.{Stored, wordsOf, wordsOf-at, stored-forward, stored-turned, stored-then, stored-before, stored-cong, table-lengths}
+use Rattle.network.specs.Turned.{Columns}
+use Rattle.network.specs.Built.{rowOf, columnOf, slotOf}
+use Rattle.network.specs.RuleFields.{RuleFields, counts-few, row-past, row-is}
+
+-- The first k of 24 words are the rule's rows, the others 0.
+pub record RowsTo (xs : List ℕ) (r k : ℕ) (w : List ℕ) : Type 0 where
+  pub sized : length w ≡ 24
+  pub done : (v : ℕ) → v < k → getD w v 0 ≡ rowOf xs r v
+  pub rest : (v : ℕ) → k ≤ v → getD w v 0 ≡ 0
+
+module _ (xs : List ℕ) (r : ℕ) where
+  pub rows-start : RowsTo xs r 0 (replicate 24 0)
+  rows-start = record { sized = length-replicate {A = ℕ} 24 0; done = λ v l. absurd (omega arith); rest = λ v l. getD-zeros 24 v }
+
+  pub rows-next : (k x : ℕ) (w : List ℕ) → k < 24 → x ≡ rowOf xs r k → RowsTo xs r k w → RowsTo xs r (k + 1) (set w k x)
+  rows-next k x w b e p = record {
+    sized = length-set w k x ∙ p .sized;
+    done = λ v l. ⊎-elim (λ (q : v ≡ k). rw q (getD-set-same w k x 0 (let z = p .sized in omega arith) ∙ e))
+        (λ q. getD-set-other w k v x 0 (λ z. omega arith) ∙ p .done v q) (eq-or-lt-of-le (let j : v ≤ k = omega arith in j));
+    rest = λ v l. getD-set-other w k v x 0 (λ z. omega arith) ∙ p .rest v (omega arith);
+  }
+
+-- A rule's rows, in both tables, and nothing else changed.
+pub record RuleStored (xs : List ℕ) (r : ℕ) (rows rows' : List ℕ) : Type 0 where
+  pub sized : length rows' ≡ length rows
+  pub forward : Stored (forwardOf rows) (slotOf xs r * 24) (rowOf xs r) 24 (forwardOf rows')
+  pub turned : Stored (turnedOf rows) (slotOf xs r * 24) (columnOf xs r) 24 (turnedOf rows')
+
+module _ (xs : List ℕ) (r place i j atI atJ : ℕ) (g : RuleFields xs r place i j atI atJ) where
+  -- a rule of kind 0 has its rows as masks
+  pub row-mask : (v c : ℕ) → kindOf xs r ≡ 0 → v < countOf xs i → c ≡ numberOf xs r v → c ≡ rowOf xs r v
+  row-mask v c k h e =
+      let z = eq-eqb (kindOf xs r) 0 k in
+      let n : numberOf xs r v ≡ valueOf xs r v = pick-true _ _ _ z in
+      let m = facts xs (g .rule .accepted) .mask-lt r v (g .rule .within) k (rw (g .first) at h) .0 in
+      e ∙ n ∙ sym (mask-self _ (valueOf xs r v) m)
+      ∙ mask-cong (countOf xs (secondOf xs r)) (bit (valueOf xs r v)) (λ u. ruleAllows xs r v u) (λ u l. sym (pick-true _ _ _ z ∙ ap (λ (x : ℕ). bit x u) n))
+      ∙ rw (g .second) at (row-is xs r place i j atI atJ g v h)
+
+  module _ (w : List ℕ) (p : RowsTo xs r (countOf xs i) w) where
+    row-at : (v : ℕ) → getD w v 0 ≡ rowOf xs r v
+    row-at v = ⊎-elim (λ q. p .done v (ltb-true v (countOf xs i) q))
+        (λ q. let l = ltb-false v (countOf xs i) q in p .rest v l ∙ row-past xs r place i j atI atJ g v l) (bool-cases (ltb v (countOf xs i)))
+
+    column-at : (T : List ℕ) → Columns w (countOf xs i) T → (u : ℕ) → u < 24 → getD T u 0 ≡ columnOf xs r u
+    column-at T c u h = c .at u h ∙ rw (g .first) (mask-cong (countOf xs (firstOf xs r)) _ _ (λ v l.
+        ap (λ (x : ℕ). bit x u) (row-at v) ∙ bit-maskOf (countOf xs (secondOf xs r)) (λ u. ltb v (countOf xs (firstOf xs r)) && ruleAllows xs r v u) u
+        ∙ rw (lt-ltb v (countOf xs (firstOf xs r)) l)))
+
+    -- stored one after the other
+    pub rule-stored : (s : ℕ) (T rows rows1 rows2 : List ℕ) → s ≡ slot i j → s < 276 → Columns w (countOf xs i) T
+        → Stored rows (s * 24) (wordsOf w) 24 rows1 → Stored rows1 (tableWords + s * 24) (wordsOf T) 24 rows2 → RuleStored xs r rows rows2
+    rule-stored s T rows rows1 rows2 e b c p q =
+        let z : slotOf xs r ≡ s = sym (rw (g .first, g .second) at e) in
+        let x = stored-forward rows rows1 (s * 24) (wordsOf w) (omega arith) p in
+        let y = stored-turned rows1 rows2 (s * 24) (wordsOf T) q in
+        let m = table-lengths rows1 rows (p .sized) in
+        let n = table-lengths rows2 rows1 (q .sized) in
+        record {
+          sized = q .sized ∙ p .sized;
+          forward = rw z (stored-cong (λ v l. wordsOf-at w v ∙ row-at v) (stored-then _ _ _ _ _ (x .0) (n .0) (y .1)));
+          turned = rw z (stored-cong (λ u l. wordsOf-at T u ∙ column-at T c u l) (stored-before _ _ _ _ _ (y .0) (m .1) (x .1)));
+        }

@@ -1,0 +1,87 @@
+-- What is asked can be met: on sheet D, with a start set of all its settings, and what the answer then is. Assumes nothing.
+use mathlib.Core.Path.{_≡_, refl, sym, ap, _∙_}
+use mathlib.Core.Bool.{Bool, true, false}
+use mathlib.Core.List.{List, [], _∷_, _++_}
+use Prim.Native.Nat.{ℕ, zero, suc, _^_, _≤_, _<_}
+use native.Mathlib.Omega.{arith}
+use lib.ListN.{length, getD, take, replicate, length-replicate}
+use Rattle.masks.specs.Tests.{never, allBelow, someBelow}
+use Rattle.masks.specs.Bits.{bit, bit-of-zero}
+use Rattle.masks.specs.Masks.{maskOf, keepIn, keepBits, someIn, someBit, countIn, countBits}
+use Rattle.masks.specs.Sets.{has, only, count, same, getD-zeros}
+use Rattle.masks.specs.Settings.{cut, empty, someEmpty}
+use Rattle.consistency.specs.Largest.{sweep, sweeps, largest}
+use Rattle.consistency.specs.Problem.{allFields}
+use Rattle.consistency.specs.Closing.{partner, supportedBy, supported, closing}
+use Rattle.consistency.specs.Neighbourhood.{widen, fieldsWithin, neighbourhood}
+use Rattle.consistency.specs.Offers.{noneEmpty, passesOver, passes, offers, wipedOut}
+use Rattle.sheet.specs.Pick.{pick}
+use Rattle.sheet.specs.Parts.{fieldStart, ruleStart, reachOf}
+use Rattle.sheet.specs.Cases.{numbersOfD, sheet-D}
+use Rattle.network.specs.SheetProblem.{runs, pairs, sheetProblem}
+use Rattle.engines.specs.Engine.{IsOrder, Offered}
+use Rattle.offering.specs.Offering.{OfferAsks}
+
+abbrev zeros : ℕ → List ℕ
+zeros n = replicate n 0
+
+-- every setting of its two fields
+abbrev pub startOfD : List ℕ
+startOfD = 7 ∷ 7 ∷ zeros 22
+
+abbrev pub offersOfD : List ℕ
+offersOfD = 6 ∷ 3 ∷ zeros 22
+
+-- its fields in rising order
+abbrev pub orderOfD : List ℕ
+orderOfD = 0 ∷ 1 ∷ []
+
+-- work spaces just long enough, with its numbers at the front of the second
+abbrev pub rowsOfD : List ℕ
+rowsOfD = zeros 13248
+
+abbrev pub memoryOfD : List ℕ
+memoryOfD = numbersOfD ++ zeros 13809
+
+order-D : IsOrder 2 orderOfD
+order-D = record { sized = refl; low = low; every = every }
+  where
+    low : (q : ℕ) → q < 2 → getD orderOfD q 0 < 2
+    low zero h = omega arith
+    low (suc zero) h = omega arith
+    low (suc (suc q)) h = absurd (omega arith)
+
+    every : (f : ℕ) → f < 2 → (q : ℕ) × (q < 2) × (getD orderOfD q 0 ≡ f)
+    every zero h = (0, h, refl)
+    every (suc zero) h = (1, h, refl)
+    every (suc (suc f)) h = absurd (omega arith)
+
+small-D : (f : ℕ) → getD startOfD f 0 < 2 ^ 24
+small-D zero = omega arith
+small-D (suc zero) = omega arith
+small-D (suc (suc f)) = rw (getD-zeros 22 f) (omega arith)
+
+on-D : (f v : ℕ) → has startOfD f v ≡ true → f < 2
+unfolding has
+on-D zero v h = omega arith
+on-D (suc zero) v h = omega arith
+on-D (suc (suc f)) v h = absurd (never h (ap (λ (x : ℕ). bit x v) (getD-zeros 22 f) ∙ bit-of-zero v))
+
+pub offer-asks-D : OfferAsks (take 15 memoryOfD) 15 orderOfD startOfD rowsOfD memoryOfD
+offer-asks-D = record {
+  accepted = sheet-D .2;
+  ends = let n = length-replicate {A = ℕ} 13809 0 in omega arith;
+  visits = order-D;
+  masks = record { long = refl; small = small-D };
+  on = on-D;
+  tables = let n = length-replicate {A = ℕ} 13248 0 in omega arith;
+  room = let n = length-replicate {A = ℕ} 13809 0 in omega arith;
+}
+
+computed : (wipedOut (sheetProblem numbersOfD) (reachOf numbersOfD) startOfD ≡ false) × (offers (sheetProblem numbersOfD) (reachOf numbersOfD) startOfD ≡ offersOfD)
+unfolding wipedOut offers passes passesOver noneEmpty neighbourhood fieldsWithin widen allFields closing supported supportedBy partner largest sweeps sweep someEmpty empty cut same count only countBits countIn someBit someIn keepBits keepIn maskOf bit someBelow allBelow sheetProblem runs pairs pick fieldStart ruleStart
+computed = (refl, refl)
+
+-- The only answer there: not wiped out, and the offers (6, 3).
+pub offered-D : (wiped : Bool) (R : List ℕ) → Offered (sheetProblem (take 15 memoryOfD)) (reachOf (take 15 memoryOfD)) startOfD wiped R → (wiped ≡ false) × (R ≡ offersOfD)
+offered-D wiped R o = let e = o .wipes ∙ computed .0 in (e, o .made e ∙ computed .1)
