@@ -1,2 +1,3 @@
 pub mod Problems
+pub mod Calls
 pub mod Table

@@ -13,11 +13,27 @@ use Rattle.consistency.specs.Problem.{Problem, allFields}
 use Rattle.consistency.specs.Closing.{partner, supportedBy, supported, closing}
 use Rattle.consistency.specs.Neighbourhood.{widen, fieldsWithin, neighbourhood}
 use Rattle.consistency.specs.Offers.{noneEmpty, passesOver, passes, offers, wipedOut}
+use Rattle.sheet.specs.Pick.{pick}
+use Rattle.sheet.specs.Groups.{groups, numberAt}
+use Rattle.sheet.specs.Grammar.{step as sheetStep}
+use Rattle.sheet.specs.Judge.{judge, numbers, items, ofBytes}
+use Rattle.sheet.specs.Parts.{fieldStart, ruleStart}
+use Rattle.sheet.specs.Cases.{D}
+use Rattle.network.specs.SheetProblem.{runs, pairs, sheetProblem}
+use Rattle.ledger.specs.declared.Call.{Call}
+use Rattle.ledger.specs.declared.Call.the-variants.{Open, Choose, Strike, WithdrawStrike}
+use Rattle.ledger.specs.Lists.{tabulate, occurrences}
+use Rattle.ledger.specs.Ledger.{empty as noLedger, same as sameDecision, inForce, without, reversed, step, starts, startSet, offersOf, wiped, tooShort, onSheet, allOnSheet, reversible, malformed, unknownArgument, isOrder, first, judged, causes, number, after}
 use Rattle.cases.specs.Problems.{allDifferent, ring}
+use Rattle.cases.specs.Calls.{given, answers, afterAll, single, three, threeAndOne, five}
 
 pub data Case : Type 0 where
   -- a problem, a reach, a set; its closing over every field, its offers, and whether it is wiped out
   consistency : Problem → ℕ → List ℕ → List ℕ → List ℕ → Bool → Case
+  -- the bytes of a sheet, calls one after the other, and their numbers
+  calls : List ℕ → List Call → List ℕ → Case
+  -- and, where the last is accepted, the masks of the offers after it
+  shown : List ℕ → List Call → List ℕ → List ℕ → Case
 
 -- two answers are the same
 agree : Bool → Bool → Bool
@@ -26,9 +42,12 @@ agree false b = not b
 
 -- It opens all that it computes with, so a theorem says `unfolding allHold` and no more.
 unfoldable pub holds : Case → Bool
-unfolding agree wipedOut offers passes passesOver noneEmpty neighbourhood fieldsWithin widen allFields closing supported supportedBy partner largest sweeps sweep someEmpty empty cut same count only countBits countIn someBit someIn keepBits keepIn maskOf bit someBelow allBelow
+unfolding agree wipedOut offers passes passesOver noneEmpty neighbourhood fieldsWithin widen allFields closing supported supportedBy partner largest sweeps sweep someEmpty empty cut same count only countBits countIn someBit someIn keepBits keepIn maskOf bit someBelow allBelow answers afterAll tabulate occurrences number after first causes judged malformed unknownArgument isOrder tooShort reversible allOnSheet onSheet inForce sameDecision without reversed step starts startSet offersOf wiped judge numbers items numberAt groups pick sheetStep fieldStart ruleStart sheetProblem runs pairs
 holds (consistency P k S closed offered wiped) =
     same (closing P (allFields P) S) closed && same (offers P k S) offered && agree (wipedOut P k S) wiped
+holds (calls sheet cs ks) = same (answers (given sheet) noLedger cs) ks
+holds (shown sheet cs ks masks) =
+    same (answers (given sheet) noLedger cs) ks && same (offersOf (numbers (ofBytes sheet)) (afterAll (given sheet) noLedger cs .decisions)) masks
 
 unfoldable pub allHold : List Case → Bool
 unfolding holds
@@ -45,6 +64,21 @@ table =
     ∷ consistency (ring 5) 2 (3 ∷ 3 ∷ 3 ∷ 3 ∷ 3 ∷ []) (3 ∷ 3 ∷ 3 ∷ 3 ∷ 3 ∷ []) (0 ∷ 0 ∷ 0 ∷ 0 ∷ 0 ∷ []) true
     -- the three fields and a fourth with no rule, reach 1: some field is empty
     ∷ consistency (allDifferent 3 4) 1 (3 ∷ 3 ∷ 3 ∷ 3 ∷ []) (3 ∷ 3 ∷ 3 ∷ 3 ∷ []) (0 ∷ 0 ∷ 0 ∷ 3 ∷ []) true
+    -- sheet D
+    ∷ shown D (Open ∷ []) (0 ∷ []) (6 ∷ 3 ∷ [])
+    ∷ shown D (Open ∷ Strike 0 2 ∷ []) (0 ∷ 0 ∷ []) (2 ∷ 1 ∷ [])
+    ∷ calls D (Open ∷ Strike 0 2 ∷ Choose 1 1 ∷ []) (0 ∷ 0 ∷ 14 ∷ [])
+    ∷ shown D (Open ∷ Strike 0 2 ∷ Choose 1 0 ∷ WithdrawStrike 0 2 ∷ []) (0 ∷ 0 ∷ 0 ∷ 0 ∷ []) (6 ∷ 1 ∷ [])
+    ∷ calls D (Open ∷ Choose 0 0 ∷ []) (0 ∷ 14 ∷ [])
+    ∷ shown D (Open ∷ Strike 0 0 ∷ []) (0 ∷ 0 ∷ []) (6 ∷ 3 ∷ [])
+    -- one field, one setting
+    ∷ shown single (Open ∷ []) (0 ∷ []) (1 ∷ [])
+    -- the problems above, as sheets
+    ∷ calls (three 1) (Open ∷ []) (14 ∷ [])
+    ∷ calls (three 24) (Open ∷ []) (14 ∷ [])
+    ∷ shown (five 1) (Open ∷ []) (0 ∷ []) (3 ∷ 3 ∷ 3 ∷ 3 ∷ 3 ∷ [])
+    ∷ calls (five 2) (Open ∷ []) (14 ∷ [])
+    ∷ calls (threeAndOne 1) (Open ∷ []) (14 ∷ [])
     ∷ []
 
 -- THE THEOREM: every case of the table holds.

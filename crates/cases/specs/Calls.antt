@@ -1,0 +1,39 @@
+-- The sheets and calls that the starred cases speak of. Assumes nothing.
+use mathlib.Core.List.{List, [], _∷_}
+use Prim.Native.Nat.{ℕ, zero, suc}
+use lib.ListN.{length}
+use Rattle.sheet.specs.Pick.{pick}
+use Rattle.sheet.specs.Judge.{numbers, ofBytes}
+use Rattle.sheet.specs.Parts.{fieldsOf}
+use Rattle.ledger.specs.declared.Call.{Call}
+use Rattle.ledger.specs.Lists.{tabulate}
+use Rattle.ledger.specs.Ledger.{Given, Ledger, number, after}
+
+-- a sheet opened with engine 1, in rising order, with spaces just long enough
+abbrev pub given : List ℕ → Given
+given sheet = record { sheet = sheet; engine = 1; order = tabulate (fieldsOf (numbers (ofBytes sheet))) (λ f. f); offers = 24; rows = 13248; memory = 13824 }
+
+-- the numbers of calls one after the other, and the ledger after the last
+unfoldable pub answers : Given → Ledger → List Call → List ℕ
+answers g l [] = []
+answers g l (c ∷ cs) = number g c l ∷ answers g (after g c l) cs
+
+unfoldable pub afterAll : Given → Ledger → List Call → Ledger
+afterAll g l [] = l
+afterAll g l (c ∷ cs) = afterAll g (after g c l) cs
+
+-- one field with the setting 300 and no rule
+abbrev pub single : List ℕ
+single = 0x01 ∷ 0x01 ∷ 0xAC ∷ 0x02 ∷ 0x18 ∷ 0x00 ∷ []
+
+-- three fields {1, 2}, all pairs of kind 3 with c 1, at a reach
+abbrev pub three : ℕ → List ℕ
+three reach = 3 ∷ 2 ∷ 1 ∷ 2 ∷ 2 ∷ 1 ∷ 2 ∷ 2 ∷ 1 ∷ 2 ∷ reach ∷ 3 ∷ 0 ∷ 1 ∷ 3 ∷ 1 ∷ 0 ∷ 2 ∷ 3 ∷ 1 ∷ 1 ∷ 2 ∷ 3 ∷ 1 ∷ []
+
+-- the same with a fourth field, which has no rule
+abbrev pub threeAndOne : ℕ → List ℕ
+threeAndOne reach = 4 ∷ 2 ∷ 1 ∷ 2 ∷ 2 ∷ 1 ∷ 2 ∷ 2 ∷ 1 ∷ 2 ∷ 2 ∷ 1 ∷ 2 ∷ reach ∷ 3 ∷ 0 ∷ 1 ∷ 3 ∷ 1 ∷ 0 ∷ 2 ∷ 3 ∷ 1 ∷ 1 ∷ 2 ∷ 3 ∷ 1 ∷ []
+
+-- five such fields in a ring
+abbrev pub five : ℕ → List ℕ
+five reach = 5 ∷ 2 ∷ 1 ∷ 2 ∷ 2 ∷ 1 ∷ 2 ∷ 2 ∷ 1 ∷ 2 ∷ 2 ∷ 1 ∷ 2 ∷ 2 ∷ 1 ∷ 2 ∷ reach ∷ 5 ∷ 0 ∷ 1 ∷ 3 ∷ 1 ∷ 0 ∷ 4 ∷ 3 ∷ 1 ∷ 1 ∷ 2 ∷ 3 ∷ 1 ∷ 2 ∷ 3 ∷ 3 ∷ 1 ∷ 3 ∷ 4 ∷ 3 ∷ 1 ∷ []

@@ -1,0 +1,5 @@
+-- The plain ledger, and what holds of it.
+pub mod Lists
+pub mod Ledger
+-- what holds of it
+pub mod Laws
