@@ -23,7 +23,7 @@ use Rattle.network.specs.SheetProblem.{runs, pairs, sheetProblem}
 use Rattle.ledger.specs.declared.Call.{Call}
 use Rattle.ledger.specs.declared.Call.the-variants.{Open, Choose, Strike, WithdrawStrike}
 use Rattle.ledger.specs.Lists.{tabulate, occurrences}
-use Rattle.ledger.specs.Ledger.{empty as noLedger, same as sameDecision, inForce, without, reversed, step, starts, startSet, offersOf, wiped, tooShort, onSheet, allOnSheet, reversible, malformed, unknownArgument, isOrder, first, judged, causes, number, after}
+use Rattle.ledger.specs.Ledger.{empty as noLedger, same as sameDecision, inForce, without, reversed, step, starts, startSet, offersOf, wiped, tooShort, onSheet, allOnSheet, reversible, illFormed, malformed, unknownArgument, isOrder, first, judged, causes, number, after}
 use Rattle.cases.specs.Problems.{allDifferent, ring}
 use Rattle.cases.specs.Calls.{given, answers, afterAll, single, three, threeAndOne, five}
 
@@ -42,7 +42,7 @@ agree false b = not b
 
 -- It opens all that it computes with, so a theorem says `unfolding allHold` and no more.
 unfoldable pub holds : Case → Bool
-unfolding agree wipedOut offers passes passesOver noneEmpty neighbourhood fieldsWithin widen allFields closing supported supportedBy partner largest sweeps sweep someEmpty empty cut same count only countBits countIn someBit someIn keepBits keepIn maskOf bit someBelow allBelow answers afterAll tabulate occurrences number after first causes judged malformed unknownArgument isOrder tooShort reversible allOnSheet onSheet inForce sameDecision without reversed step starts startSet offersOf wiped judge numbers items numberAt groups pick sheetStep fieldStart ruleStart sheetProblem runs pairs
+unfolding agree wipedOut offers passes passesOver noneEmpty neighbourhood fieldsWithin widen allFields closing supported supportedBy partner largest sweeps sweep someEmpty empty cut same count only countBits countIn someBit someIn keepBits keepIn maskOf bit someBelow allBelow answers afterAll tabulate occurrences number after first causes judged malformed illFormed unknownArgument isOrder tooShort reversible allOnSheet onSheet inForce sameDecision without reversed step starts startSet offersOf wiped judge numbers items numberAt groups pick sheetStep fieldStart ruleStart sheetProblem runs pairs
 holds (consistency P k S closed offered wiped) =
     same (closing P (allFields P) S) closed && same (offers P k S) offered && agree (wipedOut P k S) wiped
 holds (calls sheet cs ks) = same (answers (given sheet) noLedger cs) ks

@@ -18,7 +18,7 @@ use Rattle.network.specs.SheetProblem.{sheetProblem}
 use Rattle.ledger.specs.Lists.{tabulate}
 use Rattle.ledger.specs.declared.Call.{Call}
 use Rattle.ledger.specs.declared.Call.the-variants.{Open, Show, Choose, Strike, WithdrawChoice, WithdrawStrike, Back, CoilOn}
-use Rattle.ledger.specs.Ledger.{Decision, choice, strike, Event, added, withdrawn, unknown, Ledger, same, inForce, with, without, Change, adds, withdraws, neither, changeOf, reversed, step, starts, startSet, offersOf, wiped, Given, onSheet, allOnSheet, reversible, malformed, addedAgain, withdrawnUnheld, Cause, first, judged, causes, number, after}
+use Rattle.ledger.specs.Ledger.{Decision, choice, strike, Event, added, withdrawn, unknown, Ledger, same, inForce, with, without, Change, adds, withdraws, neither, changeOf, reversed, step, starts, startSet, offersOf, wiped, Given, onSheet, allOnSheet, reversible, illFormed, malformed, addedAgain, withdrawnUnheld, Cause, first, judged, causes, number, after}
 
 -- ---- the same decision
 
@@ -154,7 +154,7 @@ again-same (withdraws d) ds es a = (refl, ap not (a d))
 again-same neither ds es a = (refl, refl)
 
 pub malformed-same : (xs : List ℕ) (c : Call) (l m : Ledger) → Same l m → malformed xs c l ≡ malformed xs c m
-unfolding malformed
+unfolding malformed illFormed
 malformed-same xs c l m s = rw (s .past, alike-on _ _ (s .held) xs, alike-reversible xs (m .events) _ _ (s .held))
 
 pub judged-same : (xs : List ℕ) (c : Call) (engine : ℕ) (order : List ℕ) (l m : Ledger) → Same l m → judged xs c engine order l ≡ judged xs c engine order m

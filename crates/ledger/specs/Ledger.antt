@@ -166,11 +166,12 @@ reversible xs (unknown ∷ es) ds = false
 abbrev pub mostEvents : ℕ
 mostEvents = 64
 
+unfoldable pub illFormed : List ℕ → Ledger → Bool
+illFormed xs l = not (allOnSheet xs (l .decisions)) || (ltb mostEvents (length (l .events)) || not (reversible xs (l .events) (l .decisions)))
+
 -- 15; open skips it
 unfoldable pub malformed : List ℕ → Call → Ledger → Bool
-malformed xs c l =
-    not (isOpen c)
-    && (not (allOnSheet xs (l .decisions)) || (ltb mostEvents (length (l .events)) || not (reversible xs (l .events) (l .decisions))))
+malformed xs c l = not (isOpen c) && illFormed xs l
 
 -- 7
 abbrev pub offSheet : List ℕ → Change → Bool

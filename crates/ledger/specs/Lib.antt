@@ -3,3 +3,4 @@ pub mod Lists
 pub mod Ledger
 -- what holds of it
 pub mod Laws
+pub mod Orders
