@@ -5,7 +5,7 @@ use mathlib.Core.List.{List, [], _∷_}
 use Prim.Native.Nat.{ℕ}
 use Rattle.masks.specs.Tests.{allBelow, someBelow}
 use Rattle.masks.specs.Bits.{bit}
-use Rattle.masks.specs.Masks.{maskOf, keepIn, keepBits, someIn, someBit, countIn, countBits}
+use Rattle.masks.specs.Masks.{maskOf, digit, keepIn, keepBits, someIn, someBit, countIn, countBits}
 use Rattle.masks.specs.Sets.{only, count, same}
 use Rattle.masks.specs.Settings.{cut, empty, someEmpty}
 use Rattle.consistency.specs.Largest.{sweep, sweeps, largest}
@@ -42,7 +42,7 @@ agree false b = not b
 
 -- It opens all that it computes with, so a theorem says `unfolding allHold` and no more.
 unfoldable pub holds : Case → Bool
-unfolding agree wipedOut offers passes passesOver noneEmpty neighbourhood fieldsWithin widen allFields closing supported supportedBy partner largest sweeps sweep someEmpty empty cut same count only countBits countIn someBit someIn keepBits keepIn maskOf bit someBelow allBelow answers afterAll tabulate occurrences number after first causes judged malformed illFormed unknownArgument isOrder tooShort reversible allOnSheet onSheet inForce sameDecision without reversed step starts startSet offersOf wiped judge numbers items numberAt groups pick sheetStep fieldStart ruleStart sheetProblem runs pairs
+unfolding agree wipedOut offers passes passesOver noneEmpty neighbourhood fieldsWithin widen allFields closing supported supportedBy partner largest sweeps sweep someEmpty empty cut same count only countBits countIn someBit someIn keepBits keepIn maskOf digit bit someBelow allBelow answers afterAll tabulate occurrences number after first causes judged malformed illFormed unknownArgument isOrder tooShort reversible allOnSheet onSheet inForce sameDecision without reversed step starts startSet offersOf wiped judge numbers items numberAt groups pick sheetStep fieldStart ruleStart sheetProblem runs pairs
 holds (consistency P k S closed offered wiped) =
     same (closing P (allFields P) S) closed && same (offers P k S) offered && agree (wipedOut P k S) wiped
 holds (calls sheet cs ks) = same (answers (given sheet) noLedger cs) ks

@@ -5,7 +5,7 @@ use Prim.Native.Nat.{ℕ, zero, suc, _+_, _<_}
 use native.Mathlib.Omega.{arith}
 use lib.Dec.{eqb}
 use lib.ListN.{length, getD}
-use Rattle.sheet.specs.Pick.{pick}
+use Rattle.masks.specs.Masks.{digit}
 
 -- g 0, g 1, .. , g (n - 1)
 unfoldable pub tabulate : ℕ → (ℕ → ℕ) → List ℕ
@@ -26,4 +26,4 @@ getD-tabulate (suc n) g (suc f) h = getD-tabulate n (λ f. g (suc f)) f (omega a
 -- how often x occurs
 unfoldable pub occurrences : ℕ → List ℕ → ℕ
 occurrences x [] = 0
-occurrences x (y ∷ ys) = pick (eqb y x) 1 0 + occurrences x ys
+occurrences x (y ∷ ys) = digit (eqb y x) + occurrences x ys

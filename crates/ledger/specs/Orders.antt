@@ -10,9 +10,15 @@ use lib.Dec.{eqb, ltb}
 use lib.ListN.{length, getD, take}
 use borrow.Author.Tests.{eqb-true, eqb-false, eq-eqb, ne-eqb, ltb-true, ltb-false, lt-ltb, le-ltb}
 use Rattle.masks.specs.Tests.{never, not-so, bool-cases, eq-cases, and-l, and-r, and-by, allBelow, allBelow-at, allBelow-by}
-use Rattle.sheet.specs.Pick.{pick, pick-true, pick-false}
+use Rattle.masks.specs.Masks.{digit}
 use Rattle.ledger.specs.Lists.{occurrences}
 use Rattle.ledger.specs.Ledger.{isOrder}
+
+digit-true : {t : Bool} → t ≡ true → digit t ≡ 1
+digit-true e = ap digit e
+
+digit-false : {t : Bool} → t ≡ false → digit t ≡ 0
+digit-false e = ap digit e
 
 -- ---- counted one after the other
 
@@ -20,14 +26,21 @@ pub occurs-none : (x : ℕ) (l : List ℕ) → occurrences x (take 0 l) ≡ 0
 unfolding occurrences
 occurs-none x l = refl
 
-pub occurs-next : (x : ℕ) (l : List ℕ) (k : ℕ) → k < length l → occurrences x (take (k + 1) l) ≡ occurrences x (take k l) + pick (eqb (getD l k 0) x) 1 0
+occurs-next : (x : ℕ) (l : List ℕ) (k : ℕ) → k < length l → occurrences x (take (k + 1) l) ≡ occurrences x (take k l) + digit (eqb (getD l k 0) x)
 unfolding occurrences
 occurs-next x [] k h = absurd (omega arith)
-occurs-next x (y ∷ l) zero h = let z : pick (eqb y x) 1 0 + 0 ≡ 0 + pick (eqb y x) 1 0 = omega arith in z
-occurs-next x (y ∷ l) (suc k) h = rw add-one (rw add-one at (ap (λ (n : ℕ). pick (eqb y x) 1 0 + n) (occurs-next x l k (omega arith)) ∙ add-assoc (pick (eqb y x) 1 0) (occurrences x (take k l)) (pick (eqb (getD l k 0) x) 1 0)))
+occurs-next x (y ∷ l) zero h = let z : digit (eqb y x) + 0 ≡ 0 + digit (eqb y x) = omega arith in z
+occurs-next x (y ∷ l) (suc k) h = rw add-one (rw add-one at (ap (λ (n : ℕ). digit (eqb y x) + n) (occurs-next x l k (omega arith)) ∙ add-assoc (digit (eqb y x)) (occurrences x (take k l)) (digit (eqb (getD l k 0) x))))
   where
     add-assoc : (a b c : ℕ) → a + (b + c) ≡ a + b + c
     add-assoc a b c = omega arith
+
+-- one place more, which holds x or does not
+pub counted : (x : ℕ) (l : List ℕ) (k times : ℕ) → k < length l → times ≡ occurrences x (take k l) → getD l k 0 ≡ x → times + 1 ≡ occurrences x (take (k + 1) l)
+counted x l k times h e q = let n = occurs-next x l k h in let d = digit-true (eq-eqb (getD l k 0) x q) in omega arith
+
+pub passed : (x : ℕ) (l : List ℕ) (k times : ℕ) → k < length l → times ≡ occurrences x (take k l) → (getD l k 0 ≡ x → ⊥) → times ≡ occurrences x (take (k + 1) l)
+passed x l k times h e q = let n = occurs-next x l k h in let d = digit-false (ne-eqb (getD l k 0) x q) in omega arith
 
 -- ---- the number of places that hold something below n, counted field by field
 
@@ -37,27 +50,30 @@ sumBelow (suc n) g = sumBelow n g + g n
 
 lows : ℕ → List ℕ → ℕ
 lows n [] = 0
-lows n (y ∷ l) = pick (ltb y n) 1 0 + lows n l
+lows n (y ∷ l) = digit (ltb y n) + lows n l
 
 sum-plus : (n : ℕ) (g h : ℕ → ℕ) → sumBelow n (λ f. g f + h f) ≡ sumBelow n g + sumBelow n h
+unfolding sumBelow
 sum-plus zero g h = refl
 sum-plus (suc n) g h = omega (arith, sum-plus n g h)
 
 sum-zero : (n : ℕ) → sumBelow n (λ f. 0) ≡ 0
+unfolding sumBelow
 sum-zero zero = refl
 sum-zero (suc n) = omega (arith, sum-zero n)
 
-sum-one : (n y : ℕ) → sumBelow n (λ f. pick (eqb y f) 1 0) ≡ pick (ltb y n) 1 0
-sum-one zero y = sym (pick-false _ 1 0 (le-ltb y 0 (omega arith)))
+sum-one : (n y : ℕ) → sumBelow n (λ f. digit (eqb y f)) ≡ digit (ltb y n)
+unfolding sumBelow
+sum-one zero y = let e : digit (ltb y 0) ≡ 0 = digit-false (le-ltb y 0 (omega arith)) in sym e
 sum-one (suc n) y = ⊎-elim
     (λ (q : y ≡ n).
-    let a : pick (ltb y n) 1 0 ≡ 0 = pick-false _ 1 0 (le-ltb y n (omega arith)) in
-    let b : pick (eqb y n) 1 0 ≡ 1 = pick-true _ 1 0 (eq-eqb y n q) in
-    let c : pick (ltb y (suc n)) 1 0 ≡ 1 = pick-true _ 1 0 (lt-ltb y (suc n) (omega arith)) in
+    let a : digit (ltb y n) ≡ 0 = digit-false (le-ltb y n (omega arith)) in
+    let b : digit (eqb y n) ≡ 1 = digit-true (eq-eqb y n q) in
+    let c : digit (ltb y (suc n)) ≡ 1 = digit-true (lt-ltb y (suc n) (omega arith)) in
     omega (arith, sum-one n y, a, b, c))
     (λ q.
-    let b : pick (eqb y n) 1 0 ≡ 0 = pick-false _ 1 0 (ne-eqb y n q) in
-    let c : pick (ltb y (suc n)) 1 0 ≡ pick (ltb y n) 1 0 = ap (λ (t : Bool). pick t 1 0) (same q) in
+    let b : digit (eqb y n) ≡ 0 = digit-false (ne-eqb y n q) in
+    let c : digit (ltb y (suc n)) ≡ digit (ltb y n) = ap digit (same q) in
     omega (arith, sum-one n y, b, c))
     (eq-cases y n)
   where
@@ -65,24 +81,27 @@ sum-one (suc n) y = ⊎-elim
     same q = ⊎-elim (λ e. let h = ltb-true y n e in lt-ltb y (suc n) (omega arith) ∙ sym e) (λ e. let h = ltb-false y n e in le-ltb y (suc n) (omega arith) ∙ sym e) (bool-cases (ltb y n))
 
 sum-occurs : (n : ℕ) (l : List ℕ) → sumBelow n (λ f. occurrences f l) ≡ lows n l
-unfolding occurrences
+unfolding occurrences lows
 sum-occurs n [] = sum-zero n
-sum-occurs n (y ∷ l) = sum-plus n (λ f. pick (eqb y f) 1 0) (λ f. occurrences f l) ∙ ap₂ _+_ (sum-one n y) (sum-occurs n l)
+sum-occurs n (y ∷ l) = sum-plus n (λ f. digit (eqb y f)) (λ f. occurrences f l) ∙ ap₂ _+_ (sum-one n y) (sum-occurs n l)
 
 sum-each : (n : ℕ) (g : ℕ → ℕ) → ((f : ℕ) → f < n → g f ≡ 1) → sumBelow n g ≡ n
+unfolding sumBelow
 sum-each zero g h = refl
 sum-each (suc n) g h = let a = sum-each n g (λ f l. h f (omega arith)) in let b = h n (omega arith) in omega arith
 
 lows-most : (n : ℕ) (l : List ℕ) → lows n l ≤ length l
+unfolding lows
 lows-most n [] = omega arith
 lows-most n (y ∷ l) = let a = lows-most n l in ⊎-elim
-    (λ q. let b : pick (ltb y n) 1 0 ≡ 1 = pick-true _ 1 0 q in omega arith) (λ q. let b : pick (ltb y n) 1 0 ≡ 0 = pick-false _ 1 0 q in omega arith) (bool-cases (ltb y n))
+    (λ q. let b : digit (ltb y n) ≡ 1 = digit-true q in omega arith) (λ q. let b : digit (ltb y n) ≡ 0 = digit-false q in omega arith) (bool-cases (ltb y n))
 
 lows-all : (n : ℕ) (l : List ℕ) → lows n l ≡ length l → (q : ℕ) → q < length l → getD l q 0 < n
+unfolding lows
 lows-all n [] e q h = absurd (omega arith)
 lows-all n (y ∷ l) e q h = ⊎-elim
-    (λ t. let b : pick (ltb y n) 1 0 ≡ 1 = pick-true _ 1 0 t in by q h (ltb-true y n t) (lows-all n l (omega arith)))
-    (λ t. let b : pick (ltb y n) 1 0 ≡ 0 = pick-false _ 1 0 t in let m = lows-most n l in absurd (omega arith))
+    (λ t. let b : digit (ltb y n) ≡ 1 = digit-true t in by q h (ltb-true y n t) (lows-all n l (omega arith)))
+    (λ t. let b : digit (ltb y n) ≡ 0 = digit-false t in let m = lows-most n l in absurd (omega arith))
     (bool-cases (ltb y n))
   where
     by : (q : ℕ) → q < length (y ∷ l) → y < n → ((q : ℕ) → q < length l → getD l q 0 < n) → getD (y ∷ l) q 0 < n
@@ -94,7 +113,7 @@ unfolding occurrences
 occurs-at x [] h = absurd (h refl)
 occurs-at x (y ∷ l) h = ⊎-elim
     (λ t. (0, omega arith, eqb-true y x t))
-    (λ t. let b : pick (eqb y x) 1 0 ≡ 0 = pick-false _ 1 0 t in let r = occurs-at x l (λ z. h (omega arith)) in (suc (r .0), let k = r .1 in omega arith, r .2))
+    (λ t. let b : digit (eqb y x) ≡ 0 = digit-false t in let r = occurs-at x l (λ z. h (omega (arith, b, z))) in (suc (r .0), let k = r .1 in omega arith, r .2))
     (bool-cases (eqb y x))
 
 -- ---- an order

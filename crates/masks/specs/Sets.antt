@@ -62,14 +62,15 @@ pub length-pad : (n : ℕ) (S : List ℕ) → length (pad n S) ≡ length S + n
 unfolding pad
 length-pad n S = length-append S (replicate n 0) ∙ ap (λ (k : ℕ). length S + k) (length-replicate n 0)
 
+pub getD-pad : (n : ℕ) (S : List ℕ) (f : ℕ) → getD (pad n S) f 0 ≡ getD S f 0
+unfolding pad
+getD-pad n [] f = getD-zeros n f
+getD-pad n (m ∷ S) zero = refl
+getD-pad n (m ∷ S) (suc f) = getD-pad n S f
+
 pub has-pad : (n : ℕ) (S : List ℕ) (f v : ℕ) → has (pad n S) f v ≡ has S f v
-unfolding pad has
-has-pad n S f v = ap (λ (m : ℕ). bit m v) (masks S f)
-  where
-    masks : (S : List ℕ) (f : ℕ) → _≡_ {A = ℕ} (getD (S ++ replicate n 0) f 0) (getD S f 0)
-    masks [] f = getD-zeros n f
-    masks (m ∷ S) zero = refl
-    masks (m ∷ S) (suc f) = masks S f
+unfolding has
+has-pad n S f v = ap (λ (m : ℕ). bit m v) (getD-pad n S f)
 
 -- ---- the settings of S that pass p
 

@@ -2,7 +2,7 @@
 use mathlib.Core.Path.{_≡_, refl, sym, ap, _∙_}
 use mathlib.Core.Bool.{Bool, true, false, not}
 use mathlib.Core.List.{List, [], _∷_}
-use Prim.Native.Nat.{ℕ, zero, suc, _+_, _%_, _≤_, _<_}
+use Prim.Native.Nat.{ℕ, zero, suc, _-_, _%_, _≤_, _<_}
 use native.Mathlib.Omega.{arith}
 use lib.Dec.{eqb, leb}
 use lib.ListN.{length, getD, set}
@@ -39,6 +39,11 @@ pub length-past : (es : List EventWords) (k : ℕ) → length (past es k) ≡ k
 unfolding past
 length-past es zero = refl
 length-past es (suc k) = ap suc (length-past es k)
+
+-- the latest of them
+pub past-latest : (es : List EventWords) (k : ℕ) → 0 < k → past es k ≡ eventOf (getD es (k - 1) noEvent) ∷ past es (k - 1)
+past-latest es zero h = absurd (omega arith)
+past-latest es (suc k) h = let q : suc k - 1 ≡ k = omega arith in rw q (unfold past in refl)
 
 -- a place at or past k is not among them
 pub past-set : (es : List EventWords) (k i : ℕ) (e : EventWords) → k ≤ i → past (set es i e) k ≡ past es k

@@ -23,10 +23,32 @@ use Rattle.session.specs.declared.Event.{Event as EventWords}
 use Rattle.session.specs.declared.Session.{Session}
 use Rattle.session.specs.declared.decisions.Decisions.{Decisions}
 use Rattle.session.specs.Decisions.{decisionOf, heldIn, gained, lost, Long, gained-long, lost-long, held-gained, held-lost}
-use Rattle.session.specs.Events.{eventBy, eventOf, noEvent, past, length-past, ofStrike, event-none, event-past, event-added, event-withdrawn, canReverse, reverses, undone, ByKind, by-added, by-withdrawn, by-unknown, byKind}
+use Rattle.session.specs.Events.{eventBy, eventOf, noEvent, past, length-past, past-latest, ofStrike, event-none, event-past, event-added, event-withdrawn, canReverse, reverses, undone, ByKind, by-added, by-withdrawn, by-unknown, byKind}
 use Rattle.session.specs.View.{decisionsOf, inForce-of, decisionsIn, view}
 
 -- ---- a setting on the sheet
+
+-- how many positions a field has, none where it is not on the sheet
+unfoldable pub roomOf : List ℕ → ℕ → ℕ
+roomOf xs f = pick (ltb f (fieldsOf xs)) (countOf xs f) 0
+
+pub room-none : (xs : List ℕ) (f n : ℕ) → n ≡ fieldsOf xs → n ≤ f → (0 ≡ roomOf xs f) × (0 ≤ 24)
+unfolding roomOf
+room-none xs f n e h = (sym (pick-false _ _ _ (le-ltb f (fieldsOf xs) (omega arith))), omega arith)
+
+pub room-some : (xs : List ℕ) → Accepted xs → (f n d : ℕ) → n ≡ fieldsOf xs → f < n → d ≡ countOf xs f → (d ≡ roomOf xs f) × (d ≤ 24)
+unfolding roomOf
+room-some xs a f n d e h q =
+    let l : f < fieldsOf xs = omega arith in
+    (q ∙ sym (pick-true _ _ _ (lt-ltb f (fieldsOf xs) l)), let m = facts xs a .count-few f l in omega arith)
+
+pub on-room : (xs : List ℕ) (f v : ℕ) → ltb v (roomOf xs f) ≡ onSheet xs (choice f v)
+unfolding onSheet roomOf
+on-room xs f v = go (ltb f (fieldsOf xs))
+  where
+    go : (t : Bool) → ltb v (pick t (countOf xs f) 0) ≡ (t && ltb v (countOf xs f))
+    go true = unfold pick in refl
+    go false = unfold pick in le-ltb v 0 (omega arith)
 
 module _ (xs : List ℕ) (a : Accepted xs) where
   -- it is small
@@ -39,14 +61,6 @@ module _ (xs : List ℕ) (a : Accepted xs) where
       let m = facts xs a .count-few f h in
       (h, k, omega arith, omega arith)
 
-pub on-field : (xs : List ℕ) (f v n : ℕ) → n ≡ fieldsOf xs → n ≤ f → false ≡ onSheet xs (choice f v)
-unfolding onSheet
-on-field xs f v n e h = sym (ap (λ (b : Bool). b && ltb v (countOf xs f)) (le-ltb f (fieldsOf xs) (omega arith)))
-
-pub on-position : (xs : List ℕ) (f v n d : ℕ) → n ≡ fieldsOf xs → f < n → d ≡ countOf xs f → ltb v d ≡ onSheet xs (choice f v)
-unfolding onSheet
-on-position xs f v n d e h q = rw (q, lt-ltb f (fieldsOf xs) (omega arith))
-
 -- for a strike it is the same
 pub on-either : (xs : List ℕ) (s : Bool) (f v : ℕ) → onSheet xs (decisionOf s f v) ≡ onSheet xs (choice f v)
 unfolding onSheet
@@ -54,10 +68,6 @@ on-either xs true f v = refl
 on-either xs false f v = refl
 
 -- ---- masks on the sheet
-
--- how many positions a field has, none where it is not on the sheet
-abbrev pub roomOf : List ℕ → ℕ → ℕ
-roomOf xs f = pick (ltb f (fieldsOf xs)) (countOf xs f) 0
 
 unfoldable pub masksOnSheet : List ℕ → List ℕ → Bool
 masksOnSheet xs ms = allBelow 24 (λ f. ltb (getD ms f 0) (2 ^ roomOf xs f))
@@ -72,7 +82,7 @@ module _ (xs ms : List ℕ) where
   masks-on h = sym (allBelow-by 24 _ (λ f l. lt-ltb _ _ (h f l)))
 
   pub masks-at : length ms ≡ 24 → masksOnSheet xs ms ≡ true → (f v : ℕ) → has ms f v ≡ true → onSheet xs (choice f v) ≡ true
-  unfolding masksOnSheet has onSheet
+  unfolding masksOnSheet has onSheet roomOf
   masks-at n e f v b = ⊎-elim
       (λ q. let l = ltb-true f 24 q in let k = bit-bound (roomOf xs f) (getD ms f 0) v (ltb-true _ _ (allBelow-at 24 _ e f l)) b in go (ltb f (fieldsOf xs)) refl k)
       (λ q. absurd (never b (ap (λ (x : ℕ). bit x v) (List·getD-eq-default ms 0 (let l = ltb-false f 24 q in omega arith)) ∙ bit-of-zero v)))
@@ -83,7 +93,7 @@ module _ (xs ms : List ℕ) where
       go false q k = unfold pick in absurd (omega arith)
 
   pub masks-by : ((f v : ℕ) → has ms f v ≡ true → onSheet xs (choice f v) ≡ true) → masksOnSheet xs ms ≡ true
-  unfolding masksOnSheet has onSheet
+  unfolding masksOnSheet has onSheet roomOf
   masks-by h = allBelow-by 24 _ (λ f l. lt-ltb _ _ (lt-of-bits (roomOf xs f) (getD ms f 0) (λ v k. not-so _ (λ b.
       let e = h f v b in
       let m = ltb-true f (fieldsOf xs) (and-l _ _ e) in
@@ -105,12 +115,12 @@ module _ (xs : List ℕ) (d : Decisions) (l : Long d) where
 
 -- ---- the events, from the latest on
 
-module _ (xs : List ℕ) (d : Decisions) (l : Long d) (f v : ℕ) (low : f < 24) where
-  alike-lost : (s : Bool) → Alike (without (decisionOf s f v) (decisionsOf d)) (decisionsOf (lost d s f v))
+module _ (d : Decisions) (l : Long d) (f v : ℕ) (low : f < 24) where
+  pub alike-lost : (s : Bool) → Alike (without (decisionOf s f v) (decisionsOf d)) (decisionsOf (lost d s f v))
   alike-lost s e = inForce-without (decisionOf s f v) (decisionsOf d) e ∙ ap (λ (b : Bool). b && not (same (decisionOf s f v) e)) (inForce-of d e)
       ∙ sym (held-lost d l s f v low e) ∙ sym (inForce-of (lost d s f v) e)
 
-  alike-gained : (s : Bool) → Alike (with (decisionOf s f v) (decisionsOf d)) (decisionsOf (gained d s f v))
+  pub alike-gained : (s : Bool) → Alike (with (decisionOf s f v) (decisionsOf d)) (decisionsOf (gained d s f v))
   alike-gained s e = inForce-with (decisionOf s f v) (decisionsOf d) e ∙ ap (λ (b : Bool). same (decisionOf s f v) e || b) (inForce-of d e)
       ∙ sym (held-gained d l s f v low e) ∙ sym (inForce-of (gained d s f v) e)
 
@@ -143,11 +153,11 @@ module _ (xs : List ℕ) (d : Decisions) (past : List Event) (kind f v : ℕ) wh
       go (by-added k q) =
           let s : heldIn d (decisionOf (ofStrike kind) f v) ≡ true = rw q at e in
           rw (q, on-either xs (ofStrike kind) f v, o, inForce-of d (decisionOf (ofStrike kind) f v), s, pick-true (leb kind 2) (lost d (ofStrike kind) f v) (gained d (ofStrike kind) f v) (le-leb kind 2 k))
-          (alike-reversible xs past _ _ (alike-lost xs d l f v low (ofStrike kind)))
+          (alike-reversible xs past _ _ (alike-lost d l f v low (ofStrike kind)))
       go (by-withdrawn k q) =
           let s : not (heldIn d (decisionOf (ofStrike kind) f v)) ≡ true = rw q at e in
           rw (q, on-either xs (ofStrike kind) f v, o, inForce-of d (decisionOf (ofStrike kind) f v), s, pick-false (leb kind 2) (lost d (ofStrike kind) f v) (gained d (ofStrike kind) f v) (lt-leb kind 2 k))
-          (alike-reversible xs past _ _ (alike-gained xs d l f v low (ofStrike kind)))
+          (alike-reversible xs past _ _ (alike-gained d l f v low (ofStrike kind)))
       go (by-unknown q) = absurd (never e (rw q))
 
 undone-long : (d : Decisions) (e : EventWords) → Long d → Long (undone d e)
@@ -171,28 +181,21 @@ module _ (xs : List ℕ) (start : Decisions) (es : List EventWords) (count : ℕ
     abbrev e : EventWords
     e = getD es (k - 1) noEvent
 
-    latest : past es k ≡ eventOf e ∷ past es (k - 1)
-    latest = go k h
-      where
-        go : (k : ℕ) → 0 < k → past es k ≡ eventOf (getD es (k - 1) noEvent) ∷ past es (k - 1)
-        go zero h = absurd (omega arith)
-        go (suc k) h = let q : suc k - 1 ≡ k = omega arith in rw q (unfold past in refl)
-
     pub reversing-off : false ≡ onSheet xs (choice (e .field) (e .position)) → false ≡ reversible xs (past es count) (decisionsOf start)
-    reversing-off o = sym (p .rest ∙ rw latest (event-off xs d (past es (k - 1)) (e .kind) (e .field) (e .position) (sym o)))
+    reversing-off o = sym (p .rest ∙ rw (past-latest es k h) (event-off xs d (past es (k - 1)) (e .kind) (e .field) (e .position) (sym o)))
 
     pub reversing-stuck : false ≡ reverses d e → false ≡ reversible xs (past es count) (decisionsOf start)
-    reversing-stuck o = sym (p .rest ∙ rw latest (event-stuck xs d (past es (k - 1)) (e .kind) (e .field) (e .position) (sym o)))
+    reversing-stuck o = sym (p .rest ∙ rw (past-latest es k h) (event-stuck xs d (past es (k - 1)) (e .kind) (e .field) (e .position) (sym o)))
 
     pub reversing-next : e .field < 24 → true ≡ onSheet xs (choice (e .field) (e .position)) → true ≡ reverses d e → Reversing xs start es count (undone d e) (k - 1)
     reversing-next low o c = record {
       few = let f = p .few in omega arith;
       long = undone-long d e (p .long);
-      rest = p .rest ∙ rw latest (event-undone xs d (past es (k - 1)) (e .kind) (e .field) (e .position) (p .long) low (sym o) (sym c));
+      rest = p .rest ∙ rw (past-latest es k h) (event-undone xs d (past es (k - 1)) (e .kind) (e .field) (e .position) (p .long) low (sym o) (sym c));
     }
 
-    pub reversing-end : k ≡ 0 → true ≡ reversible xs (past es count) (decisionsOf start)
-    reversing-end z = absurd (omega arith)
+  pub reversing-end : (d : Decisions) (k : ℕ) → k ≡ 0 → Reversing xs start es count d k → true ≡ reversible xs (past es count) (decisionsOf start)
+  reversing-end d k z p = sym (p .rest ∙ rw z (unfold past reversible in refl))
 
 -- ---- all of it
 

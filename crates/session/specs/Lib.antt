@@ -2,3 +2,5 @@ pub mod Decisions
 pub mod Events
 pub mod View
 pub mod Form
+pub mod Start
+pub mod Steps

@@ -5,7 +5,7 @@ ghost use Rattle.sheet.specs.Judge.{Accepted};
 ghost use Rattle.ledger.specs.Ledger.{choice, onSheet, reversible, illFormed};
 ghost use Rattle.session.specs.Events.{past};
 ghost use Rattle.session.specs.View.{decisionsOf, view};
-ghost use Rattle.session.specs.Form.{masksOnSheet};
+ghost use Rattle.session.specs.Form.{roomOf, masksOnSheet};
 use super::Event;
 use super::Session;
 use super::decisions::Decisions;
@@ -16,16 +16,23 @@ use sheet::parts;
 // The most events that a session holds.
 pub const MOST_EVENTS: u32 = 64;
 
+// How many positions a field has on the sheet; none where it is no field of it.
+fn room(numbers: &[u32], f: usize) -> usize
+    requires { ⌜ Accepted (now numbers) ⌝ }
+    ensures { λ r. ⌜ (r ≡ roomOf (now (numbers .entry)) f) × (r ≤ 24) ⌝ }
+{
+    if parts::fields(numbers) <= f {
+        return 0;
+    }
+    parts::count(numbers, f)
+}
+
 // Whether a field and a position are on the sheet.
 pub fn on_sheet(numbers: &[u32], field: u32, position: u32) -> bool
     requires { ⌜ Accepted (now numbers) ⌝ }
     ensures { λ r. ⌜ r ≡ onSheet (now (numbers .entry)) (choice field position) ⌝ }
 {
-    let f = field as usize;
-    if parts::fields(numbers) <= f {
-        return false;
-    }
-    (position as usize) < parts::count(numbers, f)
+    (position as usize) < room(numbers, field as usize)
 }
 
 // Whether the settings of a set of masks are on the sheet.
@@ -33,14 +40,10 @@ fn masks_on_sheet(numbers: &[u32], masks: [u32; 24]) -> bool
     requires { ⌜ Accepted (now numbers) ⌝ }
     ensures { λ r. ⌜ r ≡ masksOnSheet (now (numbers .entry)) masks ⌝ }
 {
-    let n = parts::fields(numbers);
     let mut f: usize = 0;
     while f < 24 {
-        let mut room: usize = 0;
-        if f < n {
-            room = parts::count(numbers, f);
-        }
-        if (1u32 << room) <= masks[f] {
+        let d = room(numbers, f);
+        if (1u32 << d) <= masks[f] {
             return false;
         }
         f += 1;

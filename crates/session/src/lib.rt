@@ -2,6 +2,8 @@
 pub mod decisions; // decisions.rt: a decision held, added, withdrawn; an event reversed
 pub mod order; // order.rt: whether a list is an order of the fields
 pub mod form; // form.rt: whether a session is malformed
+pub mod start; // start.rt: the start set
+pub mod steps; // steps.rt: the session after a call
 
 // An event: 1 and 2 are a choice and a strike added, 3 and 4 a choice and a strike withdrawn.
 #[repr(C)]
@@ -18,4 +20,10 @@ pub struct Session {
     pub strikes: [u32; 24],
     pub events: [Event; 64],
     pub count: u32,
+}
+
+// What a call gives back: its number, and the session after it.
+pub struct Outcome {
+    pub number: u32,
+    pub session: Session,
 }

@@ -1,9 +1,6 @@
 use borrow.Author.Needs.{needs}
 use Rattle.session.proofs.decisions.add.Statement.{statement}
 use Rattle.session.proofs.decisions.add.Tie as tie
-use Rattle.session.proofs.decisions.add.Reads as reads
-use Rattle.session.proofs.decisions.add.Lts as lts
-use Rattle.masks.proofs.one_bit.Reads as one-bit-reads
 
 mul-r : tie.Need-mul-r
 mul-r c = search needs

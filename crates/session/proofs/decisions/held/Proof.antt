@@ -2,9 +2,6 @@ use Rattle.masks.specs.Sets.{has}
 use borrow.Author.Needs.{needs}
 use Rattle.session.proofs.decisions.held.Statement.{statement}
 use Rattle.session.proofs.decisions.held.Tie as tie
-use Rattle.session.proofs.decisions.held.Reads as reads
-use Rattle.session.proofs.decisions.held.Lts as lts
-use Rattle.masks.proofs.has_bit.Reads as has-bit-reads
 
 mul-has-bit : tie.Need-mul-has-bit
 mul-has-bit c = search needs

@@ -4,10 +4,6 @@ use borrow.Author.Tests.{le-leb, lt-leb}
 use borrow.Author.Needs.{needs}
 use Rattle.session.proofs.decisions.reverse.Statement.{statement}
 use Rattle.session.proofs.decisions.reverse.Tie as tie
-use Rattle.session.proofs.decisions.reverse.Reads as reads
-use Rattle.session.proofs.decisions.reverse.Lts as lts
-use Rattle.session.proofs.decisions.add.Reads as add-reads
-use Rattle.session.proofs.decisions.withdraw.Reads as withdraw-reads
 
 cast-withdraw : tie.Need-cast-withdraw
 cast-withdraw c = search needs

@@ -3,9 +3,6 @@ use Rattle.session.specs.Events.{reverses-none, reverses-past, reverses-
 use borrow.Author.Needs.{needs}
 use Rattle.session.proofs.decisions.reversible.Statement.{statement}
 use Rattle.session.proofs.decisions.reversible.Tie as tie
-use Rattle.session.proofs.decisions.reversible.Reads as reads
-use Rattle.session.proofs.decisions.reversible.Lts as lts
-use Rattle.session.proofs.decisions.held.Reads as held-reads
 
 returns : tie.Need-returns
 returns c = reverses-none _ _ _ _ (c .if1 .taken)

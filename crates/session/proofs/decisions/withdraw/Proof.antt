@@ -1,9 +1,6 @@
 use borrow.Author.Needs.{needs}
 use Rattle.session.proofs.decisions.withdraw.Statement.{statement}
 use Rattle.session.proofs.decisions.withdraw.Tie as tie
-use Rattle.session.proofs.decisions.withdraw.Reads as reads
-use Rattle.session.proofs.decisions.withdraw.Lts as lts
-use Rattle.masks.proofs.clear_bit.Reads as clear-bit-reads
 
 mul-clear-bit : tie.Need-mul-clear-bit
 mul-clear-bit c = search needs

@@ -1,64 +1,52 @@
+use borrow.Author.Tests.{not-true, not-false}
+use mathlib.Core.Path.{_≡_, sym, ap, _∙_}
+use native.Mathlib.Omega.{arith}
+use borrow.Author.Needs.{needs}
+use Rattle.session.specs.Form.{Reversing, reversing-start, reversing-off, reversing-stuck, reversing-next, reversing-end, on-low}
 use Rattle.session.proofs.form.events_reversible.Statement.{statement}
 use Rattle.session.proofs.form.events_reversible.Tie as tie
-use Rattle.session.proofs.form.events_reversible.Reads as reads
-use Rattle.session.proofs.form.events_reversible.Lts as lts
-use Rattle.session.proofs.decisions.reverse.Reads as reverse-reads
-use Rattle.session.proofs.decisions.reversible.Reads as reversible-reads
-use Rattle.session.proofs.form.on_sheet.Reads as on-sheet-reads
 
 abbrev Inv-loop : tie.InvT-loop
-Inv-loop numbers count events d₀ k₀ d k = ?
+Inv-loop numbers count events d₀ k₀ d k = Reversing numbers d₀ events count d k
 
 abbrev μ-loop : tie.MeasureT-loop
-μ-loop numbers count events d₀ k₀ d k = ?
+μ-loop numbers count events d₀ k₀ d k = k
 
--- src/form.rt:58:5
 loop-holds : tie.Need-loop-holds Inv-loop μ-loop
-loop-holds c = ?
+loop-holds c = reversing-start _ _ _ _ (record { choices = search needs; strikes = search needs }) (c .before .pre .1)
 
--- src/form.rt:59:9
 sub-k : tie.Need-sub-k Inv-loop μ-loop
-sub-k c = ?
+sub-k c = search needs
 
--- src/form.rt:60:17
 mul-e : tie.Need-mul-e Inv-loop μ-loop
-mul-e c = ?
+mul-e c = let l = c .before .loop .inv .few in search needs
 
--- src/form.rt:60:17
 array-copy-out-e : tie.Need-array-copy-out-e Inv-loop μ-loop
-array-copy-out-e c = ?
+array-copy-out-e c = let l = c .before .loop .inv .few in search needs
 
--- src/form.rt:61:13
 on-sheet-requires : tie.Need-on-sheet-requires Inv-loop μ-loop
-on-sheet-requires c κs = ?
+on-sheet-requires c κs = c .before .before .before .before .pre .0
 
--- src/form.rt:62:13
 returns : tie.Need-returns Inv-loop μ-loop
-returns c = ?
+returns c = reversing-off _ _ _ _ _ _ (c .before .before .before .loop-test .taken) (c .before .before .before .before .loop .inv) (sym (not-true (c .before .on-sheet .result) (c .if1 .taken)) ∙ c .before .on-sheet .ensures)
 
--- src/form.rt:64:13
 reversible-requires : tie.Need-reversible-requires Inv-loop μ-loop
-reversible-requires c κs = ?
+reversible-requires c κs = let l = on-low (c .before .before .before .before .before .before .args .numbers .now) (c .before .before .before .before .before .before .pre .0) _ _ (sym (sym (not-false (c .before .on-sheet .result) (c .if1 .left)) ∙ c .before .on-sheet .ensures)) in (l .2, let k = l .3 in omega arith)
 
--- src/form.rt:65:13
 returns-2 : tie.Need-returns-2 Inv-loop μ-loop
-returns-2 c = ?
+returns-2 c = reversing-stuck _ _ _ _ _ _ (c .before .before .before .before .before .loop-test .taken) (c .before .before .before .before .before .before .loop .inv) (sym (not-true (c .before .reversible .result) (c .if2 .taken)) ∙ c .before .reversible .ensures)
 
--- src/form.rt:67:13
 reverse-requires : tie.Need-reverse-requires Inv-loop μ-loop
-reverse-requires c κs = ?
+reverse-requires c κs = let l = on-low (c .before .before .before .before .before .before .before .before .args .numbers .now) (c .before .before .before .before .before .before .before .before .pre .0) _ _ (sym (sym (not-false (c .before .before .before .on-sheet .result) (c .before .before .if1 .left)) ∙ c .before .before .before .on-sheet .ensures)) in (l .2, let k = l .3 in omega arith)
 
--- src/form.rt:58:5
 loop-less : tie.Need-loop-less Inv-loop μ-loop
-loop-less c = ?
+loop-less c = search needs
 
--- src/form.rt:58:5
 loop-again : tie.Need-loop-again Inv-loop μ-loop
-loop-again c = ?
+loop-again c = rw (c .reverse .ensures) (reversing-next _ _ _ _ _ _ (c .before .before .before .before .before .before .loop-test .taken) (c .before .before .before .before .before .before .before .loop .inv) (on-low (c .before .before .before .before .before .before .before .before .before .args .numbers .now) (c .before .before .before .before .before .before .before .before .before .pre .0) _ _ (sym (sym (not-false (c .before .before .before .before .on-sheet .result) (c .before .before .before .if1 .left)) ∙ c .before .before .before .before .on-sheet .ensures)) .2) (sym (not-false (c .before .before .before .before .on-sheet .result) (c .before .before .before .if1 .left)) ∙ c .before .before .before .before .on-sheet .ensures) (sym (not-false (c .before .before .reversible .result) (c .before .if2 .left)) ∙ c .before .before .reversible .ensures))
 
--- src/form.rt:52:1
 returns-3 : tie.Need-returns-3 Inv-loop μ-loop
-returns-3 c = ?
+returns-3 c = reversing-end _ _ _ _ _ _ (let z : c .before .loop .k ≡ 0 = search needs in z) (c .before .loop .inv)
 
 pub events-reversible-spec : {M : Type 1} → statement M
 events-reversible-spec =

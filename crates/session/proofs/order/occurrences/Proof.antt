@@ -1,53 +1,52 @@
+use mathlib.Core.Path.{_≡_, sym, ap, _∙_}
+use Prim.Native.Nat.{ℕ, _+_, _-_, _≤_}
+use borrow.Author.Tests.{eq-eqb, ne-eqb}
+use lib.Dec.{eqb}
+use lib.ListN.{length, getD, take}
+use lib.Seq.{take-all}
+use native.Mathlib.Omega.{arith}
+use borrow.Author.Needs.{needs}
+use Rattle.masks.specs.Masks.{digit}
+use Rattle.ledger.specs.Lists.{occurrences}
+use Rattle.ledger.specs.Orders.{occurs-none, counted, passed}
 use Rattle.session.proofs.order.occurrences.Statement.{statement}
 use Rattle.session.proofs.order.occurrences.Tie as tie
-use Rattle.session.proofs.order.occurrences.Reads as reads
-use Rattle.session.proofs.order.occurrences.Lts as lts
 
 abbrev Inv-loop : tie.InvT-loop
-Inv-loop order f times₀ q₀ times q = ?
+Inv-loop order f times₀ q₀ times q = (q ≤ length order) × (times ≤ q) × (times ≡ occurrences f (take q order))
 
 abbrev μ-loop : tie.MeasureT-loop
-μ-loop order f times₀ q₀ times q = ?
+μ-loop order f times₀ q₀ times q = length order - q
 
--- src/order.rt:12:5
 loop-holds : tie.Need-loop-holds Inv-loop μ-loop
-loop-holds c = ?
+loop-holds c = (search needs, search needs, sym (occurs-none _ (c .args .order .now)))
 
--- src/order.rt:13:17
 shared-slice-read-g : tie.Need-shared-slice-read-g Inv-loop μ-loop
-shared-slice-read-g c = ?
+shared-slice-read-g c = search needs
 
--- src/order.rt:13:17
 cast-g : tie.Need-cast-g Inv-loop μ-loop
-cast-g c = ?
+cast-g c = omega (arith, c .shared-slice-known .given (c .before .before .loop .q))
 
--- src/order.rt:14:9
 add-q : tie.Need-add-q Inv-loop μ-loop
-add-q c = ?
+add-q c = search needs
 
--- src/order.rt:16:13
 add-times : tie.Need-add-times Inv-loop μ-loop
-add-times c = ?
+add-times c = search needs
 
--- src/order.rt:12:5
 loop-less : tie.Need-loop-less Inv-loop μ-loop
-loop-less c = ?
+loop-less c = search needs
 
--- src/order.rt:12:5
 loop-again : tie.Need-loop-again Inv-loop μ-loop
-loop-again c = ?
+loop-again c = (search needs, search needs, counted _ _ _ _ (c .before .before .loop-test .taken) (c .before .before .before .loop .inv .2) (c .if1 .taken))
 
--- src/order.rt:12:5
 loop-less-2 : tie.Need-loop-less-2 Inv-loop μ-loop
-loop-less-2 c = ?
+loop-less-2 c = search needs
 
--- src/order.rt:12:5
 loop-again-2 : tie.Need-loop-again-2 Inv-loop μ-loop
-loop-again-2 c = ?
+loop-again-2 c = (search needs, search needs, passed _ _ _ _ (c .before .before .loop-test .taken) (c .before .before .before .loop .inv .2) (c .if1 .left))
 
--- src/order.rt:7:1
 returns : tie.Need-returns Inv-loop μ-loop
-returns c = ?
+returns c = c .before .loop .inv .2 ∙ ap (occurrences (c .before .before .args .f)) (take-all (c .before .loop .q) (c .before .before .args .order .now) (search needs))
 
 pub occurrences-spec : {M : Type 1} → statement M
 occurrences-spec =
