@@ -126,7 +126,7 @@ module _ (d : Decisions) (l : Long d) (f v : ℕ) (low : f < 24) where
 
 -- one event
 module _ (xs : List ℕ) (d : Decisions) (past : List Event) (kind f v : ℕ) where
-  event-off : onSheet xs (choice f v) ≡ false → reversible xs (eventBy kind f v ∷ past) (decisionsOf d) ≡ false
+  pub event-off : onSheet xs (choice f v) ≡ false → reversible xs (eventBy kind f v ∷ past) (decisionsOf d) ≡ false
   unfolding reversible
   event-off e = go (byKind kind f v)
     where
@@ -135,7 +135,7 @@ module _ (xs : List ℕ) (d : Decisions) (past : List Event) (kind f v : ℕ) wh
       go (by-withdrawn l q) = rw (q, on-either xs (ofStrike kind) f v, e)
       go (by-unknown q) = rw q
 
-  event-stuck : canReverse (eventBy kind f v) (heldIn d) ≡ false → reversible xs (eventBy kind f v ∷ past) (decisionsOf d) ≡ false
+  pub event-stuck : canReverse (eventBy kind f v) (heldIn d) ≡ false → reversible xs (eventBy kind f v ∷ past) (decisionsOf d) ≡ false
   unfolding reversible canReverse
   event-stuck e = go (byKind kind f v)
     where

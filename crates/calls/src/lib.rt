@@ -1,0 +1,147 @@
+// The eight calls, the session by value. Each is given the sheet's bytes, an engine, an order of the fields, and the spaces that it is lent.
+pub mod judge; // judge.rt: the causes 15 and 7 to 13
+pub mod settle; // settle.rt: the offers, found and written
+pub mod answer; // answer.rt: the answer to any call
+
+ghost use Rattle.ledger.specs.declared.Call.the-variants.{Open, Show, Choose, Strike, WithdrawChoice, WithdrawStrike, Back, CoilOn};
+ghost use Rattle.calls.specs.Answer.{Answers};
+use answer::answer;
+use ledger::Call;
+use session::Outcome;
+use session::Session;
+
+// The decisions and events are dropped, and the sheet's offers shown.
+pub fn open(
+    session: Session,
+    sheet: &[u8],
+    engine: u32,
+    order: &[u8],
+    offers: &mut [u32],
+    rows: &mut [u32],
+    memory: &mut [u32],
+) -> Outcome
+    ensures { λ r. ⌜ Answers Open session (now (sheet .entry)) engine (now (order .entry)) (now (offers .entry)) (now (rows .entry)) (now (memory .entry)) (r .number) (r .session) (now (offers .exit)) (now (rows .exit)) (now (memory .exit)) ⌝ }
+{
+    let call = Call::Open;
+    answer(session, call, sheet, engine, order, offers, rows, memory)
+}
+
+// Nothing changes, and the offers are shown.
+pub fn show(
+    session: Session,
+    sheet: &[u8],
+    engine: u32,
+    order: &[u8],
+    offers: &mut [u32],
+    rows: &mut [u32],
+    memory: &mut [u32],
+) -> Outcome
+    ensures { λ r. ⌜ Answers Show session (now (sheet .entry)) engine (now (order .entry)) (now (offers .entry)) (now (rows .entry)) (now (memory .entry)) (r .number) (r .session) (now (offers .exit)) (now (rows .exit)) (now (memory .exit)) ⌝ }
+{
+    let call = Call::Show;
+    answer(session, call, sheet, engine, order, offers, rows, memory)
+}
+
+// A choice is added.
+pub fn choose(
+    session: Session,
+    sheet: &[u8],
+    engine: u32,
+    order: &[u8],
+    field: u32,
+    position: u32,
+    offers: &mut [u32],
+    rows: &mut [u32],
+    memory: &mut [u32],
+) -> Outcome
+    ensures { λ r. ⌜ Answers (Choose field position) session (now (sheet .entry)) engine (now (order .entry)) (now (offers .entry)) (now (rows .entry)) (now (memory .entry)) (r .number) (r .session) (now (offers .exit)) (now (rows .exit)) (now (memory .exit)) ⌝ }
+{
+    let call = Call::Choose(field, position);
+    answer(session, call, sheet, engine, order, offers, rows, memory)
+}
+
+// A strike is added.
+pub fn strike(
+    session: Session,
+    sheet: &[u8],
+    engine: u32,
+    order: &[u8],
+    field: u32,
+    position: u32,
+    offers: &mut [u32],
+    rows: &mut [u32],
+    memory: &mut [u32],
+) -> Outcome
+    ensures { λ r. ⌜ Answers (Strike field position) session (now (sheet .entry)) engine (now (order .entry)) (now (offers .entry)) (now (rows .entry)) (now (memory .entry)) (r .number) (r .session) (now (offers .exit)) (now (rows .exit)) (now (memory .exit)) ⌝ }
+{
+    let call = Call::Strike(field, position);
+    answer(session, call, sheet, engine, order, offers, rows, memory)
+}
+
+// A choice is withdrawn.
+pub fn withdraw_choice(
+    session: Session,
+    sheet: &[u8],
+    engine: u32,
+    order: &[u8],
+    field: u32,
+    position: u32,
+    offers: &mut [u32],
+    rows: &mut [u32],
+    memory: &mut [u32],
+) -> Outcome
+    ensures { λ r. ⌜ Answers (WithdrawChoice field position) session (now (sheet .entry)) engine (now (order .entry)) (now (offers .entry)) (now (rows .entry)) (now (memory .entry)) (r .number) (r .session) (now (offers .exit)) (now (rows .exit)) (now (memory .exit)) ⌝ }
+{
+    let call = Call::WithdrawChoice(field, position);
+    answer(session, call, sheet, engine, order, offers, rows, memory)
+}
+
+// A strike is withdrawn.
+pub fn withdraw_strike(
+    session: Session,
+    sheet: &[u8],
+    engine: u32,
+    order: &[u8],
+    field: u32,
+    position: u32,
+    offers: &mut [u32],
+    rows: &mut [u32],
+    memory: &mut [u32],
+) -> Outcome
+    ensures { λ r. ⌜ Answers (WithdrawStrike field position) session (now (sheet .entry)) engine (now (order .entry)) (now (offers .entry)) (now (rows .entry)) (now (memory .entry)) (r .number) (r .session) (now (offers .exit)) (now (rows .exit)) (now (memory .exit)) ⌝ }
+{
+    let call = Call::WithdrawStrike(field, position);
+    answer(session, call, sheet, engine, order, offers, rows, memory)
+}
+
+// The latest event is dropped and reversed.
+pub fn back(
+    session: Session,
+    sheet: &[u8],
+    engine: u32,
+    order: &[u8],
+    offers: &mut [u32],
+    rows: &mut [u32],
+    memory: &mut [u32],
+) -> Outcome
+    ensures { λ r. ⌜ Answers Back session (now (sheet .entry)) engine (now (order .entry)) (now (offers .entry)) (now (rows .entry)) (now (memory .entry)) (r .number) (r .session) (now (offers .exit)) (now (rows .exit)) (now (memory .exit)) ⌝ }
+{
+    let call = Call::Back;
+    answer(session, call, sheet, engine, order, offers, rows, memory)
+}
+
+// The events are dropped; the decisions remain.
+pub fn coil_on(
+    session: Session,
+    sheet: &[u8],
+    engine: u32,
+    order: &[u8],
+    offers: &mut [u32],
+    rows: &mut [u32],
+    memory: &mut [u32],
+) -> Outcome
+    ensures { λ r. ⌜ Answers CoilOn session (now (sheet .entry)) engine (now (order .entry)) (now (offers .entry)) (now (rows .entry)) (now (memory .entry)) (r .number) (r .session) (now (offers .exit)) (now (rows .exit)) (now (memory .exit)) ⌝ }
+{
+    let call = Call::CoilOn;
+    answer(session, call, sheet, engine, order, offers, rows, memory)
+}
