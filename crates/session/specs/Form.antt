@@ -160,7 +160,7 @@ module _ (xs : List ℕ) (d : Decisions) (past : List Event) (kind f v : ℕ) wh
           (alike-reversible xs past _ _ (alike-gained d l f v low (ofStrike kind)))
       go (by-unknown q) = absurd (never e (rw q))
 
-undone-long : (d : Decisions) (e : EventWords) → Long d → Long (undone d e)
+pub undone-long : (d : Decisions) (e : EventWords) → Long d → Long (undone d e)
 undone-long d e l = go (leb (e .kind) 2)
   where
     go : (t : Bool) → Long (pick t (lost d (ofStrike (e .kind)) (e .field) (e .position)) (gained d (ofStrike (e .kind)) (e .field) (e .position)))
