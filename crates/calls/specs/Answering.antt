@@ -24,7 +24,7 @@ use Rattle.session.specs.View.{view, decisionsOf, decisionsIn}
 use Rattle.session.specs.Steps.{stepped}
 use Rattle.ledger.specs.Laws.{Same, alike-wiped, alike-offers}
 use Rattle.session.specs.Decisions.{Long}
-use Rattle.calls.specs.Judging.{Clear, causes-early, causes-14, causes-0}
+use Rattle.ledger.specs.Judging.{Clear, causes-early, causes-14, causes-0}
 use Rattle.calls.specs.Settle.{Settled}
 use Rattle.calls.specs.Stepping.{shows-step}
 use Rattle.calls.specs.Answer.{Answer, refused, accepted, answer, given, Answers, written}

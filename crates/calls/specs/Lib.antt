@@ -1,5 +1,4 @@
 pub mod Answer
-pub mod Judging
 pub mod Changes
 pub mod Settle
 pub mod Stepping

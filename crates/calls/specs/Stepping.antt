@@ -14,33 +14,14 @@ use Rattle.ledger.specs.declared.Call.{Call}
 use Rattle.ledger.specs.declared.Call.the-variants.{Open, Show, Choose, Strike, WithdrawChoice, WithdrawStrike, Back, CoilOn}
 use Rattle.ledger.specs.Ledger.{Decision, choice, Ledger, changeOf, step, isOpen, onSheet, allOnSheet, reversible, illFormed, malformed, offSheet, unknownArgument, nothingPast, noRoom}
 use Rattle.ledger.specs.Laws.{Same}
+use Rattle.ledger.specs.Judging.{or-left, or-right, not-back, well-formed}
 use Rattle.session.specs.declared.Session.{Session}
 use Rattle.session.specs.Decisions.{decisionOf, heldIn, Long}
 use Rattle.session.specs.Events.{eventBy, past, length-past, past-latest, canReverse, reverses}
 use Rattle.session.specs.View.{decisionsOf, decisionsIn, view}
 use Rattle.session.specs.Form.{on-low, on-either, event-off, event-stuck}
 use Rattle.session.specs.Steps.{stepped, latest, RecordAsks, BackAsks, StepAsks, view-step}
-use Rattle.calls.specs.Judging.{Clear}
-
-or-left : (a b : Bool) → (a || b) ≡ false → a ≡ false
-or-left true b e = e
-or-left false b e = refl
-
-or-right : (a b : Bool) → (a || b) ≡ false → b ≡ false
-or-right true b e = absurd (never refl e)
-or-right false b e = e
-
-not-back : (b : Bool) → not b ≡ false → b ≡ true
-not-back true e = refl
-not-back false e = sym e
-
--- a session that is not malformed
-pub well-formed : (xs : List ℕ) (l : Ledger) → illFormed xs l ≡ false → (allOnSheet xs (l .decisions) ≡ true) × (length (l .events) ≤ 64) × (reversible xs (l .events) (l .decisions) ≡ true)
-unfolding illFormed
-well-formed xs l e =
-    let a = or-left _ _ e in
-    let b = or-right (not (allOnSheet xs (l .decisions))) _ e in
-    (not-back _ a, ltb-false 64 _ (or-left _ _ b), not-back _ (or-right (ltb 64 (length (l .events))) _ b))
+use Rattle.ledger.specs.Judging.{Clear}
 
 module _ (xs : List ℕ) (a : Accepted xs) (engine : ℕ) (order : List ℕ) (s : Session) where
   -- every call but open was judged by 15

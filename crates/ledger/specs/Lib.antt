@@ -4,3 +4,6 @@ pub mod Ledger
 -- what holds of it
 pub mod Laws
 pub mod Orders
+pub mod Judging
+pub mod Sound
+pub mod Theorems

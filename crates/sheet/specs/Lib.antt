@@ -25,4 +25,5 @@ pub mod Places
 pub mod Facts
 pub mod Order
 pub mod Theorems
+pub mod Refused
 pub mod Cases

@@ -25,7 +25,7 @@ use Rattle.session.specs.Events.{ofStrike, past, undone}
 use Rattle.session.specs.View.{decisionsIn, view, inForce-of}
 use Rattle.session.specs.Form.{undone-long}
 use Rattle.session.specs.Steps.{recorded, latest, stepped}
-use Rattle.calls.specs.Judging.{Clear, clear, causes-early}
+use Rattle.ledger.specs.Judging.{sheet-accepted, none-applies}
 use Rattle.calls.specs.Stepping.{shows-step}
 use Rattle.calls.specs.Settle.{offers-sized}
 use Rattle.calls.specs.Answer.{Answer, refused, accepted, written, answer, given, Answers}
@@ -65,28 +65,6 @@ stepped-sized Back s z =
     let l = undone-long (decisionsIn s) (latest s) (record { choices = z .choices; strikes = z .strikes }) in
     record { choices = l .choices; strikes = l .strikes; events = z .events }
 stepped-sized CoilOn s z = record { choices = z .choices; strikes = z .strikes; events = z .events }
-
--- ---- where the number is 0 no cause applies
-
-module _ (g : Given) (c : Call) (l : Ledger) (e : number g c l ≡ 0) where
-  abbrev xs : List ℕ
-  xs = numbers (ofBytes (g .sheet))
-
-  judged-so : (a b : Bool) (r k : ℕ) → eqb r 0 ≡ b → pick a 6 (pick b k r) ≡ 0 → (r ≡ 0) × (k ≡ 0)
-  judged-so true b r k q h = absurd (let z : _≡_ {A = ℕ} 6 0 = unfold pick in h in omega arith)
-  judged-so false true r k q h = (eqb-true r 0 q, unfold pick in h)
-  judged-so false false r k q h = absurd (eqb-false r 0 q (unfold pick in h))
-
-  parts : (refusal (ofBytes (g .sheet)) ≡ 0) × (first (causes xs c (g .engine) (g .order) l) ≡ 0)
-  unfolding number
-  parts = judged-so (tooShort g) (eqb (refusal (ofBytes (g .sheet))) 0) (refusal (ofBytes (g .sheet))) (first (causes xs c (g .engine) (g .order) l)) refl e
-
-  pub sheet-accepted : refusal (ofBytes (g .sheet)) ≡ 0
-  sheet-accepted = parts .0
-
-  pub none-applies : Clear xs c (g .engine) (g .order) l
-  none-applies = clear xs c (g .engine) (g .order) l (⊎-elim (λ q. q) (λ n. absurd (n (causes-early xs c (g .engine) (g .order) l n ∙ parts .1)))
-      (eq-cases (first (judged xs c (g .engine) (g .order) l)) 0))
 
 -- ---- one call
 

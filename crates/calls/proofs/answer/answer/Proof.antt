@@ -7,7 +7,7 @@ use lib.Seq.{length-take-le}
 use Rattle.sheet.specs.Judge.{numbers, ofBytes}
 use Rattle.session.specs.View.{decisionsOf, decisionsIn, view}
 use Rattle.session.specs.Decisions.{Long}
-use Rattle.calls.specs.Judging.{clear}
+use Rattle.ledger.specs.Judging.{clear}
 use Rattle.calls.specs.Stepping.{step-asks}
 use Rattle.calls.specs.Answering.{roomy, read-refused, read-accepted, read-front, read-ends, front-accepted, answers-short, answers-read, answers-judged, answers-settled}
 use borrow.Author.Needs.{needs}

@@ -1,7 +1,7 @@
 use mathlib.Core.Path.{_≡_, refl, sym, ap, _∙_}
 use mathlib.Core.Bool.{not}
 use Rattle.session.specs.View.{view}
-use Rattle.calls.specs.Judging.{judged-15, judged-7, judged-8, judged-9, judged-10, judged-11, judged-13, judged-12, judged-0}
+use Rattle.ledger.specs.Judging.{judged-15, judged-7, judged-8, judged-9, judged-10, judged-11, judged-13, judged-12, judged-0}
 use Rattle.calls.specs.Changes.{known-low}
 use borrow.Author.Needs.{needs}
 use Rattle.calls.proofs.judge.judge.Statement.{statement}

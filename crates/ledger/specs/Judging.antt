@@ -1,18 +1,19 @@
--- The causes 15 and 7 to 13, one after the other. Assumes nothing.
+-- The causes one after the other, and what holds where none applies. Assumes nothing.
 use mathlib.Core.Path.{_≡_, refl, sym, ap, _∙_}
 use mathlib.Core.Logic.{⊎-elim}
 use mathlib.Core.Bool.{Bool, true, false, not, _&&_, _||_}
 use mathlib.Core.List.{List, [], _∷_, _++_}
-use Prim.Native.Nat.{ℕ, zero, suc, _%_, _≤_, _<_}
+use Prim.Native.Nat.{ℕ, _≤_}
 use native.Mathlib.Omega.{arith}
 use lib.Dec.{eqb, ltb}
 use lib.ListN.{length}
-use borrow.Author.Tests.{eqb-true, eqb-false, eq-eqb, ne-eqb}
-use Rattle.masks.specs.Tests.{never, not-so, bool-cases}
+use borrow.Author.Tests.{eqb-true, eqb-false, ltb-false}
+use Rattle.masks.specs.Tests.{never, eq-cases}
 use Rattle.sheet.specs.Pick.{pick, pick-true, pick-false}
+use Rattle.sheet.specs.Judge.{refusal, numbers, ofBytes}
 use Rattle.sheet.specs.Parts.{fieldsOf, reachOf}
 use Rattle.ledger.specs.declared.Call.{Call}
-use Rattle.ledger.specs.Ledger.{Ledger, changeOf, step, wiped, malformed, unknownArgument, isOrder, addedAgain, withdrawnUnheld, nothingPast, noRoom, Cause, because, first, judged, causes}
+use Rattle.ledger.specs.Ledger.{Ledger, Given, changeOf, step, wiped, tooShort, allOnSheet, reversible, illFormed, malformed, unknownArgument, isOrder, addedAgain, withdrawnUnheld, nothingPast, noRoom, Cause, because, first, judged, causes, number}
 
 first-here : (t : Bool) (k : ℕ) (cs : List Cause) → t ≡ true → k ≡ first (because t k ∷ cs)
 unfolding first
@@ -47,49 +48,49 @@ unfolding first
 first-end = refl
 
 module _ (xs : List ℕ) (c : Call) (engine : ℕ) (order : List ℕ) (l : Ledger) where
-  abbrev number : ℕ
-  number = first (judged xs c engine order l)
+  abbrev early : ℕ
+  early = first (judged xs c engine order l)
 
-  pub judged-15 : malformed xs c l ≡ true → 15 ≡ number
+  pub judged-15 : malformed xs c l ≡ true → 15 ≡ early
   unfolding judged
   judged-15 e = first-here _ _ _ e
 
   module _ (a : malformed xs c l ≡ false) where
-    pub judged-7 : unknownArgument xs engine (changeOf c) ≡ true → 7 ≡ number
+    pub judged-7 : unknownArgument xs engine (changeOf c) ≡ true → 7 ≡ early
     unfolding judged
     judged-7 e = first-next _ _ _ a (first-here _ _ _ e)
 
     module _ (b : unknownArgument xs engine (changeOf c) ≡ false) where
-      pub judged-8 : (eqb engine 2 && ltb (reachOf xs) 24) ≡ true → 8 ≡ number
+      pub judged-8 : (eqb engine 2 && ltb (reachOf xs) 24) ≡ true → 8 ≡ early
       unfolding judged
       judged-8 e = first-next _ _ _ a (first-next _ _ _ b (first-here _ _ _ e))
 
       module _ (d : (eqb engine 2 && ltb (reachOf xs) 24) ≡ false) where
-        pub judged-9 : not (isOrder (fieldsOf xs) order) ≡ true → 9 ≡ number
+        pub judged-9 : not (isOrder (fieldsOf xs) order) ≡ true → 9 ≡ early
         unfolding judged
         judged-9 e = first-next _ _ _ a (first-next _ _ _ b (first-next _ _ _ d (first-here _ _ _ e)))
 
         module _ (o : not (isOrder (fieldsOf xs) order) ≡ false) where
-          pub judged-10 : addedAgain (changeOf c) (l .decisions) ≡ true → 10 ≡ number
+          pub judged-10 : addedAgain (changeOf c) (l .decisions) ≡ true → 10 ≡ early
           unfolding judged
           judged-10 e = first-next _ _ _ a (first-next _ _ _ b (first-next _ _ _ d (first-next _ _ _ o (first-here _ _ _ e))))
 
           module _ (p : addedAgain (changeOf c) (l .decisions) ≡ false) where
-            pub judged-11 : withdrawnUnheld (changeOf c) (l .decisions) ≡ true → 11 ≡ number
+            pub judged-11 : withdrawnUnheld (changeOf c) (l .decisions) ≡ true → 11 ≡ early
             unfolding judged
             judged-11 e = first-next _ _ _ a (first-next _ _ _ b (first-next _ _ _ d (first-next _ _ _ o (first-next _ _ _ p (first-here _ _ _ e)))))
 
             module _ (q : withdrawnUnheld (changeOf c) (l .decisions) ≡ false) where
-              pub judged-13 : nothingPast c (l .events) ≡ true → 13 ≡ number
+              pub judged-13 : nothingPast c (l .events) ≡ true → 13 ≡ early
               unfolding judged
               judged-13 e = first-next _ _ _ a (first-next _ _ _ b (first-next _ _ _ d (first-next _ _ _ o (first-next _ _ _ p (first-next _ _ _ q (first-here _ _ _ e))))))
 
               module _ (r : nothingPast c (l .events) ≡ false) where
-                pub judged-12 : noRoom (changeOf c) (l .events) ≡ true → 12 ≡ number
+                pub judged-12 : noRoom (changeOf c) (l .events) ≡ true → 12 ≡ early
                 unfolding judged
                 judged-12 e = first-next _ _ _ a (first-next _ _ _ b (first-next _ _ _ d (first-next _ _ _ o (first-next _ _ _ p (first-next _ _ _ q (first-next _ _ _ r (first-here _ _ _ e)))))))
 
-                pub judged-0 : noRoom (changeOf c) (l .events) ≡ false → 0 ≡ number
+                pub judged-0 : noRoom (changeOf c) (l .events) ≡ false → 0 ≡ early
                 unfolding judged
                 judged-0 e = first-next _ _ _ a (first-next _ _ _ b (first-next _ _ _ d (first-next _ _ _ o (first-next _ _ _ p (first-next _ _ _ q (first-next _ _ _ r (first-next _ _ _ e first-end)))))))
 
@@ -105,7 +106,7 @@ module _ (xs : List ℕ) (c : Call) (engine : ℕ) (order : List ℕ) (l : Ledge
     pub some : nothingPast c (l .events) ≡ false
     pub room : noRoom (changeOf c) (l .events) ≡ false
 
-  pub clear : number ≡ 0 → Clear
+  pub clear : early ≡ 0 → Clear
   unfolding judged
   clear e =
       let a = first-none _ 15 _ (λ z. omega arith) e in
@@ -120,7 +121,7 @@ module _ (xs : List ℕ) (c : Call) (engine : ℕ) (order : List ℕ) (l : Ledge
 
   -- ---- and 14 after them
 
-  pub causes-early : (number ≡ 0 → ⊥) → number ≡ first (causes xs c engine order l)
+  pub causes-early : (early ≡ 0 → ⊥) → early ≡ first (causes xs c engine order l)
   unfolding causes
   causes-early n = first-more (judged xs c engine order l) _ n
 
@@ -134,3 +135,47 @@ module _ (xs : List ℕ) (c : Call) (engine : ℕ) (order : List ℕ) (l : Ledge
 
   pub causes-0 : Clear → wiped xs (step c l .decisions) ≡ false → 0 ≡ first (causes xs c engine order l)
   causes-0 v e = causes-late v 0 (first-next _ _ _ e first-end)
+
+-- ---- where the number is 0 no cause applies
+
+module _ (g : Given) (c : Call) (l : Ledger) (e : number g c l ≡ 0) where
+  abbrev xs : List ℕ
+  xs = numbers (ofBytes (g .sheet))
+
+  judged-so : (a b : Bool) (r k : ℕ) → eqb r 0 ≡ b → pick a 6 (pick b k r) ≡ 0 → (r ≡ 0) × (k ≡ 0)
+  judged-so true b r k q h = absurd (let z : _≡_ {A = ℕ} 6 0 = unfold pick in h in omega arith)
+  judged-so false true r k q h = (eqb-true r 0 q, unfold pick in h)
+  judged-so false false r k q h = absurd (eqb-false r 0 q (unfold pick in h))
+
+  parts : (refusal (ofBytes (g .sheet)) ≡ 0) × (first (causes xs c (g .engine) (g .order) l) ≡ 0)
+  unfolding number
+  parts = judged-so (tooShort g) (eqb (refusal (ofBytes (g .sheet))) 0) (refusal (ofBytes (g .sheet))) (first (causes xs c (g .engine) (g .order) l)) refl e
+
+  pub sheet-accepted : refusal (ofBytes (g .sheet)) ≡ 0
+  sheet-accepted = parts .0
+
+  pub none-applies : Clear xs c (g .engine) (g .order) l
+  none-applies = clear xs c (g .engine) (g .order) l (⊎-elim (λ q. q) (λ n. absurd (n (causes-early xs c (g .engine) (g .order) l n ∙ parts .1)))
+      (eq-cases (first (judged xs c (g .engine) (g .order) l)) 0))
+
+-- ---- a ledger that is not malformed
+
+pub or-left : (a b : Bool) → (a || b) ≡ false → a ≡ false
+or-left true b e = e
+or-left false b e = refl
+
+pub or-right : (a b : Bool) → (a || b) ≡ false → b ≡ false
+or-right true b e = absurd (never refl e)
+or-right false b e = e
+
+pub not-back : (b : Bool) → not b ≡ false → b ≡ true
+not-back true e = refl
+not-back false e = sym e
+
+-- a session that is not malformed
+pub well-formed : (xs : List ℕ) (l : Ledger) → illFormed xs l ≡ false → (allOnSheet xs (l .decisions) ≡ true) × (length (l .events) ≤ 64) × (reversible xs (l .events) (l .decisions) ≡ true)
+unfolding illFormed
+well-formed xs l e =
+    let a = or-left _ _ e in
+    let b = or-right (not (allOnSheet xs (l .decisions))) _ e in
+    (not-back _ a, ltb-false 64 _ (or-left _ _ b), not-back _ (or-right (ltb 64 (length (l .events))) _ b))
