@@ -3,9 +3,14 @@
 --     Made     a call of one of the eight functions
 --     told     each contract is `Answered`
 --     ..-free  none asks anything of its arguments
+--     every-call  each of the eight calls has its case
+use mathlib.Core.List.{List}
+use Prim.Native.Nat.{ℕ}
 use borrow.Fn.Kinds.{Dens, endedOf}
 use contract.Lifetimes.{Lfts}
+use denote.Ref.{RefT}
 use denote.Triple.Clauses.{AtExit}
+use Rattle.session.specs.declared.Session.{Session}
 use Rattle.session.specs.declared.Outcome.{Outcome}
 use Rattle.ledger.specs.declared.Call.{Call}
 use Rattle.calls.proofs.open.Kinds as open-kinds
@@ -78,3 +83,37 @@ back-free κs a = tt
 
 pub coil-on-free : (κs : Lfts 5) (a : Dens κs coil-on-kinds.ps) → coil-on-reads.Asked κs a
 coil-on-free κs a = tt
+
+-- ---- and nothing but the contract is asked for a call to be one: every call has its case, for any session, sheet, engine, order and spaces
+
+lends : List ℕ → RefT (List ℕ)
+lends x = record { ptr = (0, 0); name = 0; now = x }
+
+module _ (κs : Lfts 5) (s : Session) (sheet : List ℕ) (engine : ℕ) (order offers rows memory : List ℕ) (r : Outcome) (offers′ rows′ memory′ : List ℕ) where
+  abbrev turnOf : Call → Turn
+  turnOf c = record {
+    call = c;
+    session = s;
+    sheet = sheet;
+    engine = engine;
+    order = order;
+    offers = offers;
+    rows = rows;
+    memory = memory;
+    number = r .number;
+    session′ = r .session;
+    offers′ = offers′;
+    rows′ = rows′;
+    memory′ = memory′;
+  }
+
+  pub every-call : (c : Call) → Answered (turnOf c) → Made (turnOf c)
+  unfolding lends
+  every-call Call.Open h = by-open κs (s, (lends sheet, (engine, (lends order, (lends offers, (lends rows, (lends memory, tt))))))) r (s, (lends sheet, (engine, (lends order, (lends offers′, (lends rows′, (lends memory′, tt))))))) h
+  every-call Call.Show h = by-show κs (s, (lends sheet, (engine, (lends order, (lends offers, (lends rows, (lends memory, tt))))))) r (s, (lends sheet, (engine, (lends order, (lends offers′, (lends rows′, (lends memory′, tt))))))) h
+  every-call (Call.Choose f v) h = by-choose κs (s, (lends sheet, (engine, (lends order, (f, (v, (lends offers, (lends rows, (lends memory, tt))))))))) r (s, (lends sheet, (engine, (lends order, (f, (v, (lends offers′, (lends rows′, (lends memory′, tt))))))))) h
+  every-call (Call.Strike f v) h = by-strike κs (s, (lends sheet, (engine, (lends order, (f, (v, (lends offers, (lends rows, (lends memory, tt))))))))) r (s, (lends sheet, (engine, (lends order, (f, (v, (lends offers′, (lends rows′, (lends memory′, tt))))))))) h
+  every-call (Call.WithdrawChoice f v) h = by-withdraw-choice κs (s, (lends sheet, (engine, (lends order, (f, (v, (lends offers, (lends rows, (lends memory, tt))))))))) r (s, (lends sheet, (engine, (lends order, (f, (v, (lends offers′, (lends rows′, (lends memory′, tt))))))))) h
+  every-call (Call.WithdrawStrike f v) h = by-withdraw-strike κs (s, (lends sheet, (engine, (lends order, (f, (v, (lends offers, (lends rows, (lends memory, tt))))))))) r (s, (lends sheet, (engine, (lends order, (f, (v, (lends offers′, (lends rows′, (lends memory′, tt))))))))) h
+  every-call Call.Back h = by-back κs (s, (lends sheet, (engine, (lends order, (lends offers, (lends rows, (lends memory, tt))))))) r (s, (lends sheet, (engine, (lends order, (lends offers′, (lends rows′, (lends memory′, tt))))))) h
+  every-call Call.CoilOn h = by-coil-on κs (s, (lends sheet, (engine, (lends order, (lends offers, (lends rows, (lends memory, tt))))))) r (s, (lends sheet, (engine, (lends order, (lends offers′, (lends rows′, (lends memory′, tt))))))) h
