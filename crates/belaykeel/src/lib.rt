@@ -1,6 +1,6 @@
 // Belaykeel for C and Rust: each call with the session by `&mut`. What a call answers is said in the crate `calls`.
 ghost use Rattle.ledger.specs.declared.Call.{Call};
-ghost use Rattle.calls.specs.Answer.{Answers};
+ghost use Rattle.answering.specs.Answer.{Answers};
 ghost use Rattle.sheet.specs.Judge.{Gives, reading, writing};
 use session::Session;
 use sheet::answer::Answer;

@@ -1,11 +1,8 @@
 // The eight calls, the session by value. Each is given the sheet's bytes, an engine, an order of the fields, and the spaces that it is lent.
-pub mod judge; // judge.rt: the causes 15 and 7 to 13
-pub mod settle; // settle.rt: the offers, found and written
-pub mod answer; // answer.rt: the answer to any call
 
 ghost use Rattle.ledger.specs.declared.Call.the-variants.{Open, Show, Choose, Strike, WithdrawChoice, WithdrawStrike, Back, CoilOn};
-ghost use Rattle.calls.specs.Answer.{Answers};
-use answer::answer;
+ghost use Rattle.answering.specs.Answer.{Answers};
+use answering::answer::answer;
 use ledger::Call;
 use session::Outcome;
 use session::Session;

@@ -221,22 +221,40 @@ unfoldable pub first : List Cause → ℕ
 first [] = 0
 first (c ∷ cs) = pick (c .applies) (c .number) (first cs)
 
--- 15 and 7 to 13 in their order, for an accepted sheet
+abbrev cause15 : List ℕ → Call → Ledger → Cause
+cause15 xs c l = because (malformed xs c l) 15
+
+abbrev cause7 : List ℕ → Call → ℕ → Cause
+cause7 xs c engine = because (unknownArgument xs engine (changeOf c)) 7
+
+abbrev cause8 : List ℕ → ℕ → Cause
+cause8 xs engine = because (eqb engine 2 && ltb (reachOf xs) 24) 8
+
+abbrev cause9 : List ℕ → List ℕ → Cause
+cause9 xs order = because (not (isOrder (fieldsOf xs) order)) 9
+
+abbrev cause10 : Call → Ledger → Cause
+cause10 c l = because (addedAgain (changeOf c) (l .decisions)) 10
+
+abbrev cause11 : Call → Ledger → Cause
+cause11 c l = because (withdrawnUnheld (changeOf c) (l .decisions)) 11
+
+abbrev cause13 : Call → Ledger → Cause
+cause13 c l = because (nothingPast c (l .events)) 13
+
+abbrev cause12 : Call → Ledger → Cause
+cause12 c l = because (noRoom (changeOf c) (l .events)) 12
+
+abbrev cause14 : List ℕ → Call → Ledger → Cause
+cause14 xs c l = because (wiped xs (step c l .decisions)) 14
+
+-- 15, 7, 8, 9, 10, 11, 13, 12, for an accepted sheet
 unfoldable pub judged : List ℕ → Call → ℕ → List ℕ → Ledger → List Cause
-judged xs c engine order l =
-    because (malformed xs c l) 15
-    ∷ because (unknownArgument xs engine (changeOf c)) 7
-    ∷ because (eqb engine 2 && ltb (reachOf xs) 24) 8
-    ∷ because (not (isOrder (fieldsOf xs) order)) 9
-    ∷ because (addedAgain (changeOf c) (l .decisions)) 10
-    ∷ because (withdrawnUnheld (changeOf c) (l .decisions)) 11
-    ∷ because (nothingPast c (l .events)) 13
-    ∷ because (noRoom (changeOf c) (l .events)) 12
-    ∷ []
+judged xs c engine order l = cause15 xs c l ∷ cause7 xs c engine ∷ cause8 xs engine ∷ cause9 xs order ∷ cause10 c l ∷ cause11 c l ∷ cause13 c l ∷ cause12 c l ∷ []
 
 -- and last 14
 unfoldable pub causes : List ℕ → Call → ℕ → List ℕ → Ledger → List Cause
-causes xs c engine order l = judged xs c engine order l ++ (because (wiped xs (step c l .decisions)) 14 ∷ [])
+causes xs c engine order l = judged xs c engine order l ++ (cause14 xs c l ∷ [])
 
 -- The number of a call: 6 first, then 1 to 5, then the others.
 unfoldable pub number : Given → Call → Ledger → ℕ

@@ -15,7 +15,7 @@ use Rattle.ledger.specs.Sound.{empty-formed, after-formed, never-15}
 use Rattle.ledger.specs.Theorems.{Taken, lending, engine-and-order}
 use Rattle.session.specs.declared.Session.{Session}
 use Rattle.session.specs.View.{view}
-use Rattle.calls.specs.Answer.{Answer, refused, accepted, answer}
+use Rattle.answering.specs.Answer.{Answer, refused, accepted, answer}
 use Rattle.theorem.specs.Turns.{Turn, Answered}
 use Rattle.theorem.specs.Follows.{Sized, givenTo, next, Agrees, Follows, ends, goes}
 use Rattle.theorem.proofs.Sequence.{Calls, none-yet, then, demand-3}

@@ -12,7 +12,7 @@ use Rattle.session.specs.declared.Session.{Session}
 use Rattle.session.specs.Decisions.{heldIn}
 use Rattle.session.specs.Events.{past}
 use Rattle.session.specs.View.{decisionsIn}
-use Rattle.calls.specs.Answer.{given}
+use Rattle.answering.specs.Answer.{given}
 use Rattle.theorem.specs.Turns.{Turn}
 
 -- The arrays of a session have their lengths. Every session in memory is so; a record of lists need not be.

@@ -26,9 +26,9 @@ use Rattle.session.specs.View.{decisionsIn, view, inForce-of}
 use Rattle.session.specs.Form.{undone-long}
 use Rattle.session.specs.Steps.{recorded, latest, stepped}
 use Rattle.ledger.specs.Judging.{sheet-accepted, none-applies}
-use Rattle.calls.specs.Stepping.{shows-step}
-use Rattle.calls.specs.Settle.{offers-sized}
-use Rattle.calls.specs.Answer.{Answer, refused, accepted, written, answer, given, Answers}
+use Rattle.answering.specs.Stepping.{shows-step}
+use Rattle.answering.specs.Settle.{offers-sized}
+use Rattle.answering.specs.Answer.{Answer, refused, accepted, written, answer, given, Answers}
 use Rattle.theorem.specs.Turns.{Turn, Answered}
 use Rattle.theorem.specs.Follows.{Sized, givenTo, numbersOf, fields, next, Agrees}
 

@@ -1,6 +1,6 @@
 -- `belaykeel_back` meets its contract: the walk of `Plain`, over `calls::back`.
 use Rattle.ledger.specs.declared.Call.{Call}
-use Rattle.calls.specs.Answer.{Answers}
+use Rattle.answering.specs.Answer.{Answers}
 use Rattle.calls.proofs.back.Symbol as callee
 use Rattle.calls.proofs.back.Met as kept
 use Rattle.belaykeel.proofs.Plain.{Says, meets}

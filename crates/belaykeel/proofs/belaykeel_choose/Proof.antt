@@ -1,6 +1,6 @@
 -- `belaykeel_choose` meets its contract: the walk of `Deciding`, over `calls::choose`.
 use Rattle.ledger.specs.declared.Call.{Call}
-use Rattle.calls.specs.Answer.{Answers}
+use Rattle.answering.specs.Answer.{Answers}
 use Rattle.calls.proofs.choose.Symbol as callee
 use Rattle.calls.proofs.choose.Met as kept
 use Rattle.belaykeel.proofs.Deciding.{Says, meets}

@@ -1,6 +1,6 @@
 -- `belaykeel_coil_on` meets its contract: the walk of `Plain`, over `calls::coil_on`.
 use Rattle.ledger.specs.declared.Call.{Call}
-use Rattle.calls.specs.Answer.{Answers}
+use Rattle.answering.specs.Answer.{Answers}
 use Rattle.calls.proofs.coil_on.Symbol as callee
 use Rattle.calls.proofs.coil_on.Met as kept
 use Rattle.belaykeel.proofs.Plain.{Says, meets}

@@ -1,6 +1,6 @@
 -- `belaykeel_open` meets its contract: the walk of `Plain`, over `calls::open`.
 use Rattle.ledger.specs.declared.Call.{Call}
-use Rattle.calls.specs.Answer.{Answers}
+use Rattle.answering.specs.Answer.{Answers}
 use Rattle.calls.proofs.open.Symbol as callee
 use Rattle.calls.proofs.open.Met as kept
 use Rattle.belaykeel.proofs.Plain.{Says, meets}

@@ -1,6 +1,6 @@
 -- `belaykeel_show` meets its contract: the walk of `Plain`, over `calls::show`.
 use Rattle.ledger.specs.declared.Call.{Call}
-use Rattle.calls.specs.Answer.{Answers}
+use Rattle.answering.specs.Answer.{Answers}
 use Rattle.calls.proofs.show.Symbol as callee
 use Rattle.calls.proofs.show.Met as kept
 use Rattle.belaykeel.proofs.Plain.{Says, meets}

@@ -1,6 +1,6 @@
 -- `belaykeel_strike` meets its contract: the walk of `Deciding`, over `calls::strike`.
 use Rattle.ledger.specs.declared.Call.{Call}
-use Rattle.calls.specs.Answer.{Answers}
+use Rattle.answering.specs.Answer.{Answers}
 use Rattle.calls.proofs.strike.Symbol as callee
 use Rattle.calls.proofs.strike.Met as kept
 use Rattle.belaykeel.proofs.Deciding.{Says, meets}

@@ -1,0 +1,17 @@
+use mathlib.Core.Path.{_≡_, refl, sym, ap, _∙_}
+use mathlib.Core.Bool.{Bool, _&&_}
+use Prim.Native.Nat.{ℕ}
+use lib.Dec.{eqb}
+use Rattle.session.specs.Events.{length-past}
+use borrow.Author.Needs.{needs}
+use Rattle.answering.proofs.judge.nothing_past.Statement.{statement}
+use Rattle.answering.proofs.judge.nothing_past.Tie as tie
+
+is-back-requires : tie.Need-is-back-requires
+is-back-requires c κs = search needs
+
+returns : tie.Need-returns
+returns c = rw (c .before .is-back .ensures, length-past (c .before .before .args .session .events) (c .before .before .args .session .count))
+
+pub nothing-past-spec : {M : Type 1} → statement M
+nothing-past-spec = tie.close (tie.spec is-back-requires returns)

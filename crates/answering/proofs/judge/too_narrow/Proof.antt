@@ -1,0 +1,15 @@
+use mathlib.Core.Path.{_≡_, refl, sym, ap, _∙_}
+use lib.Dec.{eqb, ltb}
+use mathlib.Core.Bool.{_&&_}
+use borrow.Author.Needs.{needs}
+use Rattle.answering.proofs.judge.too_narrow.Statement.{statement}
+use Rattle.answering.proofs.judge.too_narrow.Tie as tie
+
+reach-requires : tie.Need-reach-requires
+reach-requires c κs = search needs
+
+returns : tie.Need-returns
+returns c = rw (c .reach .ensures)
+
+pub too-narrow-spec : {M : Type 1} → statement M
+too-narrow-spec = tie.close (tie.spec reach-requires returns)
