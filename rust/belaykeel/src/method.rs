@@ -1,0 +1,76 @@
+//! How a call finds the offers: engine, order and work spaces. None of them alters the offers.
+
+use crate::raw::{MEMORY_WORDS, OFFERS_WORDS, ROWS_WORDS};
+use crate::sheet::Sheet;
+
+/// The engines by their numbers.
+#[derive(Clone, Copy, Debug, Default, PartialEq, Eq, Hash)]
+#[repr(u32)]
+pub enum Engine {
+    /// SAC-1, at every reach.
+    #[default]
+    Sac1 = 1,
+    /// SAC-2, at reach 24 only.
+    Sac2 = 2,
+    /// The queue method, at every reach.
+    Queue = 3,
+}
+
+impl Engine {
+    /// Every engine.
+    pub const ALL: [Engine; 3] = [Engine::Sac1, Engine::Sac2, Engine::Queue];
+
+    /// The number of the engine, 1 to 3.
+    pub fn number(self) -> u32 {
+        self as u32
+    }
+}
+
+/// The order in which an engine visits the fields.
+#[derive(Clone, Debug, Default, PartialEq, Eq)]
+pub enum Order {
+    /// From field 0 up.
+    #[default]
+    Rising,
+    /// Every field of the sheet just once.
+    Listed(Vec<u8>),
+}
+
+const RISING: [u8; OFFERS_WORDS] = {
+    let mut order = [0; OFFERS_WORDS];
+    let mut field = 0;
+    while field < OFFERS_WORDS {
+        order[field] = field as u8;
+        field += 1;
+    }
+    order
+};
+
+impl Order {
+    /// The list of fields for a sheet.
+    pub(crate) fn bytes(&self, sheet: &Sheet) -> &[u8] {
+        match self {
+            Order::Rising => &RISING[..sheet.fields()],
+            Order::Listed(fields) => fields,
+        }
+    }
+}
+
+/// The two work spaces, made once and used for every call. What they hold affects no answer.
+pub struct WorkSpaces {
+    pub(crate) rows: Box<[u32]>,
+    pub(crate) memory: Box<[u32]>,
+}
+
+impl WorkSpaces {
+    /// Spaces of 13,248 and 13,824 words.
+    pub fn new() -> WorkSpaces {
+        WorkSpaces { rows: vec![0; ROWS_WORDS].into(), memory: vec![0; MEMORY_WORDS].into() }
+    }
+}
+
+impl Default for WorkSpaces {
+    fn default() -> WorkSpaces {
+        WorkSpaces::new()
+    }
+}

@@ -1,0 +1,132 @@
+//! The session and its calls.
+
+use crate::method::{Engine, Order, WorkSpaces};
+use crate::offers::Offers;
+use crate::raw::{self, Arguments, OFFERS_WORDS};
+use crate::refusal::Refusal;
+use crate::sheet::Sheet;
+
+/// The most events that a session holds.
+pub const EVENTS: usize = 64;
+
+/// A past event: kind 1 choice added, 2 strike added, 3 choice withdrawn, 4 strike withdrawn.
+#[repr(C)]
+#[derive(Clone, Copy, Debug, Default, PartialEq, Eq)]
+pub struct Event {
+    /// 1 to 4 in a session that is not malformed.
+    pub kind: u32,
+    /// The field of the decision.
+    pub field: u32,
+    /// The position of the decision.
+    pub position: u32,
+}
+
+/// The control room's session: the decisions in force, up to 64 events and their count, and no offers.
+///
+/// Its words may hold anything. [`Session::open`] starts afresh from whatever is there; every other call refuses a session that is malformed
+/// for the sheet. A refused call leaves the session as it was.
+///
+/// A strike and a choice, and the strike withdrawn first. What the strike alone drove out returns; what the choice forbids does not:
+///
+/// ```
+/// use belaykeel::{Engine, Order, Session, Sheet, WorkSpaces};
+/// # fn main() -> Result<(), belaykeel::Refusal> {
+/// let sheet = Sheet::write(&[2, 3, 100, 200, 300, 3, 100, 200, 300, 24, 1, 0, 1, 1, 100])?;
+/// let (engine, order, mut spaces) = (Engine::Queue, Order::Rising, WorkSpaces::new());
+/// let mut session = Session::default();
+/// session.open(&sheet, engine, &order, &mut spaces)?;
+/// session.strike(&sheet, engine, &order, 0, 2, &mut spaces)?;
+/// session.choose(&sheet, engine, &order, 1, 0, &mut spaces)?;
+/// let offers = session.withdraw_strike(&sheet, engine, &order, 0, 2, &mut spaces)?;
+/// assert_eq!(offers.masks(), [6, 1]);
+/// # Ok(())
+/// # }
+/// ```
+#[repr(C)]
+#[derive(Clone, Debug, PartialEq, Eq)]
+pub struct Session {
+    /// For each field the mask of its chosen positions.
+    pub choices: [u32; OFFERS_WORDS],
+    /// For each field the mask of its struck positions.
+    pub strikes: [u32; OFFERS_WORDS],
+    /// The first `count` have happened, oldest first. The places past them hold anything.
+    pub events: [Event; EVENTS],
+    /// How many events have happened.
+    pub count: u32,
+}
+
+const _: () = assert!(size_of::<Session>() == 964);
+
+impl Default for Session {
+    /// All words 0.
+    fn default() -> Session {
+        Session { choices: [0; OFFERS_WORDS], strikes: [0; OFFERS_WORDS], events: [Event::default(); EVENTS], count: 0 }
+    }
+}
+
+/// Defines a method for a call, with a field and a position where the call takes them.
+macro_rules! method {
+    ($(#[$about:meta])* $name:ident($($extra:ident),*)) => {
+        $(#[$about])*
+        pub fn $name(
+            &mut self,
+            sheet: &Sheet,
+            engine: Engine,
+            order: &Order,
+            $($extra: u32,)*
+            spaces: &mut WorkSpaces,
+        ) -> Result<Offers, Refusal> {
+            let mut words = [0; OFFERS_WORDS];
+            let given = Arguments {
+                sheet: sheet.as_bytes(),
+                engine: engine.number(),
+                order: order.bytes(sheet),
+                offers: &mut words,
+                rows: &mut spaces.rows,
+                memory: &mut spaces.memory,
+            };
+            Refusal::check(raw::$name(self, given $(, $extra)*))?;
+            Ok(Offers::new(words, sheet.fields()))
+        }
+    };
+}
+
+impl Session {
+    method! {
+        /// Starts with no decisions and no events, whatever the session held.
+        open()
+    }
+    method! {
+        /// Changes nothing and gives the offers.
+        show()
+    }
+    method! {
+        /// Adds a choice of a setting, and the event.
+        choose(field, position)
+    }
+    method! {
+        /// Adds a strike of a setting, and the event.
+        strike(field, position)
+    }
+    method! {
+        /// Removes a choice that is in force, in any order of the decisions, and adds the event.
+        withdraw_choice(field, position)
+    }
+    method! {
+        /// Removes a strike that is in force, in any order of the decisions, and adds the event.
+        withdraw_strike(field, position)
+    }
+    method! {
+        /// Drops the latest event and reverses it: an added decision goes, a withdrawn one returns.
+        back()
+    }
+    method! {
+        /// Drops all events; decisions remain.
+        coil_on()
+    }
+
+    /// The events that have happened, oldest first; at most 64.
+    pub fn past_events(&self) -> &[Event] {
+        &self.events[..EVENTS.min(self.count as usize)]
+    }
+}

@@ -1,0 +1,46 @@
+//! A sheet that was read, and what its rules allow.
+
+/// Each field's settings in micrometres, the reach and the rules.
+#[derive(Clone, Debug, PartialEq, Eq)]
+pub struct Sheet {
+    pub settings: Vec<Vec<u32>>,
+    pub reach: u32,
+    pub rules: Vec<Rule>,
+}
+
+/// A rule of fields i and j: its kind, then a mask for each setting of i (kind 0) or c alone.
+#[derive(Clone, Debug, PartialEq, Eq)]
+pub struct Rule {
+    pub i: usize,
+    pub j: usize,
+    pub kind: u32,
+    pub numbers: Vec<u32>,
+}
+
+impl Sheet {
+    /// How many fields there are.
+    pub fn fields(&self) -> usize {
+        self.settings.len()
+    }
+
+    /// Whether the sheet has this field and this position in it.
+    pub fn has(&self, field: u32, position: u32) -> bool {
+        self.settings.get(field as usize).is_some_and(|settings| (position as usize) < settings.len())
+    }
+
+    /// Whether position v of the rule's first field may go with position u of its second.
+    pub fn allows(&self, rule: &Rule, v: usize, u: usize) -> bool {
+        let p = u64::from(self.settings[rule.i][v]);
+        let q = u64::from(self.settings[rule.j][u]);
+        let c = u64::from(rule.numbers[0]);
+        match rule.kind {
+            0 => rule.numbers[v] >> u & 1 == 1,
+            1 => p >= q + c,
+            2 => q >= p + c,
+            3 => p.abs_diff(q) >= c,
+            4 => p.abs_diff(q) <= c,
+            5 => p.abs_diff(q) == c,
+            kind => unreachable!("a sheet that was read has no kind {kind}"),
+        }
+    }
+}

@@ -1,0 +1,139 @@
+//! The solver's largest sets against the definitions taken word by word: every subset of a small set is looked at.
+
+use solver::{Network, Rule, Set, Sheet, MOST};
+
+/// A small generator of numbers (splitmix64).
+struct Random(u64);
+
+impl Random {
+    fn below(&mut self, n: usize) -> usize {
+        self.0 = self.0.wrapping_add(0x9E37_79B9_7F4A_7C15);
+        let mut x = self.0;
+        x = (x ^ (x >> 30)).wrapping_mul(0xBF58_476D_1CE4_E5B9);
+        x = (x ^ (x >> 27)).wrapping_mul(0x94D0_49BB_1331_11EB);
+        ((x ^ (x >> 31)) % n as u64) as usize
+    }
+}
+
+/// At most five fields and nine settings in all.
+fn small_sheet(random: &mut Random) -> Sheet {
+    let n = 2 + random.below(4);
+    let mut left = 9 - n;
+    let mut settings: Vec<Vec<u32>> = vec![];
+    for _ in 0..n {
+        let more = random.below(left.min(2) + 1);
+        left -= more;
+        settings.push((0..=more as u32).map(|k| 3 * k + random.below(3) as u32).collect());
+    }
+    let mut rules = vec![];
+    for (i, j) in (0..n).flat_map(|i| (i + 1..n).map(move |j| (i, j))) {
+        let kind = random.below(7) as u32;
+        let numbers = match kind {
+            6 => continue,
+            0 => settings[i].iter().map(|_| (random.below(1 << settings[j].len()) | random.below(1 << settings[j].len())) as u32).collect(),
+            3..=5 => vec![random.below(5) as u32],
+            _ => vec![random.below(2) as u32],
+        };
+        rules.push(Rule { i, j, kind, numbers });
+    }
+    Sheet { settings, reach: [1, 1, 2, 3, 24][random.below(5)], rules }
+}
+
+fn settings_of(set: &Set) -> Vec<(usize, usize)> {
+    (0..MOST).flat_map(|f| (0..MOST).filter(move |v| set[f] >> v & 1 == 1).map(move |v| (f, v))).collect()
+}
+
+/// Every subset of a set.
+fn subsets(set: &Set) -> impl Iterator<Item = Set> {
+    let settings = settings_of(set);
+    (0..1u32 << settings.len()).map(move |code| {
+        let mut subset = [0; MOST];
+        for (place, &(f, v)) in settings.iter().enumerate() {
+            subset[f] |= (code >> place & 1) << v;
+        }
+        subset
+    })
+}
+
+/// The subset with the property that includes every other one with it.
+fn largest(set: &Set, has: impl Fn(&Set) -> bool) -> Set {
+    let having: Vec<Set> = subsets(set).filter(|subset| has(subset)).collect();
+    let best = *having.iter().max_by_key(|subset| settings_of(subset).len()).expect("the empty set has it");
+    assert!(having.iter().all(|subset| (0..MOST).all(|f| subset[f] & !best[f] == 0)));
+    best
+}
+
+/// Whether every setting of these fields has, under each rule that joins two of them, an allowed partner.
+fn closed(sheet: &Sheet, set: &Set, fields: &[usize]) -> bool {
+    let inside = sheet.rules.iter().filter(|rule| fields.contains(&rule.i) && fields.contains(&rule.j));
+    inside.into_iter().all(|rule| {
+        let positions = |f: usize| (0..MOST).filter(move |v| set[f] >> v & 1 == 1);
+        positions(rule.i).all(|v| positions(rule.j).any(|u| sheet.allows(rule, v, u)))
+            && positions(rule.j).all(|u| positions(rule.i).any(|v| sheet.allows(rule, v, u)))
+    })
+}
+
+/// How many rules away each field is, by paths that grow; none where there is no path.
+fn near(sheet: &Sheet, f: usize) -> Vec<usize> {
+    let mut away = vec![None; sheet.fields()];
+    away[f] = Some(0);
+    for step in 1..sheet.fields() as u32 {
+        for rule in &sheet.rules {
+            for (one, other) in [(rule.i, rule.j), (rule.j, rule.i)] {
+                if away[one] == Some(step - 1) && away[other].is_none() {
+                    away[other] = Some(step);
+                }
+            }
+        }
+    }
+    let whole = sheet.reach == 24;
+    (0..sheet.fields()).filter(|&g| whole || away[g].is_some_and(|step| step <= sheet.reach)).collect()
+}
+
+fn passes(sheet: &Sheet, set: &Set, f: usize, v: usize) -> bool {
+    let near = near(sheet, f);
+    let mut cut = [0; MOST];
+    near.iter().for_each(|&g| cut[g] = set[g]);
+    cut[f] = 1 << v;
+    let closed = largest(&cut, |subset| closed(sheet, subset, &near));
+    near.iter().all(|&g| closed[g] != 0)
+}
+
+#[test]
+fn closing_is_the_largest_closed_subset() {
+    let mut random = Random(1);
+    for _ in 0..2000 {
+        let sheet = small_sheet(&mut random);
+        let network = Network::of(&sheet);
+        let every: Vec<usize> = (0..sheet.fields()).collect();
+        let expected = largest(&network.full, |subset| closed(&sheet, subset, &every));
+        assert_eq!(network.closing(network.full, &every), expected, "{sheet:?}");
+    }
+}
+
+#[test]
+fn tests_are_as_defined() {
+    let mut random = Random(2);
+    for _ in 0..1000 {
+        let sheet = small_sheet(&mut random);
+        let network = Network::of(&sheet);
+        for (f, v) in settings_of(&network.full) {
+            assert_eq!(network.passes(&network.full, f, v), passes(&sheet, &network.full, f, v), "{sheet:?} {f} {v}");
+        }
+    }
+}
+
+#[test]
+fn offers_are_the_largest_passing_subset() {
+    let mut random = Random(3);
+    let mut kept = 0;
+    for _ in 0..2000 {
+        let sheet = small_sheet(&mut random);
+        let network = Network::of(&sheet);
+        let all_pass = |subset: &Set| settings_of(subset).iter().all(|&(f, v)| network.passes(subset, f, v));
+        let offers = network.offers(network.full);
+        assert_eq!(offers, largest(&network.full, all_pass), "{sheet:?}");
+        kept += usize::from(!network.wiped_out(&offers));
+    }
+    assert!(kept > 300, "{kept}");
+}

@@ -1,0 +1,110 @@
+//! Faulty offers.
+
+use super::{Fault, Planted};
+use crate::linked::words;
+use belaykeel::raw::Arguments;
+use belaykeel::Session;
+use solver::session::ledger;
+use solver::{reading, Call, Network, Set, Sheet, MOST};
+
+impl Planted {
+    /// Spoils the offers that an accepted call wrote.
+    pub(super) fn spoil_offers(&mut self, session: &Session, call: Call, given: &mut Arguments) {
+        let sheet = reading::sheet(given.sheet).expect("the call was accepted");
+        let n = sheet.fields();
+        let masks = &mut given.offers[..n];
+        match self.fault {
+            Fault::Restores => self.restore(call, masks),
+            Fault::RecordsOnly if self.shown.len() == n && call != Call::Open => masks.copy_from_slice(&self.shown),
+            Fault::LaterWords => given.offers[n..].iter_mut().take(1).for_each(|word| *word = 0),
+            Fault::OnlyCloses | Fault::OnePass | Fault::ShortReach | Fault::Wraps => self.weaken(session, &sheet, given),
+            Fault::ShortQueue if given.engine == 3 => self.weaken(session, &sheet, given),
+            _ => (),
+        }
+        self.shown = given.offers[..n].to_vec();
+    }
+
+    fn restore(&mut self, call: Call, masks: &mut [u32]) {
+        let shown = &self.shown;
+        match call {
+            Call::Open => self.removed.clear(),
+            Call::Choose(f, v) | Call::Strike(f, v) => {
+                let removed = masks.iter().zip(shown).map(|(mask, shown)| shown & !mask).collect();
+                self.removed.insert((matches!(call, Call::Choose(..)), f, v), removed);
+            }
+            Call::WithdrawChoice(f, v) | Call::WithdrawStrike(f, v) => {
+                let removed = self.removed.remove(&(matches!(call, Call::WithdrawChoice(..)), f, v)).unwrap_or_default();
+                for (place, removed) in removed.into_iter().enumerate().take(masks.len().min(shown.len())) {
+                    masks[place] = shown[place] | removed;
+                }
+            }
+            Call::Show | Call::Back | Call::CoilOn => (),
+        }
+    }
+
+    /// Writes the offers of a faulty engine.
+    fn weaken(&self, session: &Session, sheet: &Sheet, given: &mut Arguments) {
+        let mut sheet = sheet.clone();
+        match self.fault {
+            Fault::ShortReach => sheet.reach = if sheet.reach == 24 { 24 } else { (sheet.reach - 1).max(1) },
+            Fault::Wraps => wrap(&mut sheet),
+            _ => (),
+        }
+        let network = Network::of(&sheet);
+        let held = ledger(&words(session)).expect("the call was accepted");
+        let every: Vec<usize> = (0..sheet.fields()).collect();
+        let start = network.closing(held.start_set(&network.full), &every);
+        let offers = match self.fault {
+            Fault::OnlyCloses => start,
+            Fault::OnePass => one_pass(&network, start),
+            Fault::ShortQueue => short_queue(&network, start, given.order),
+            _ => network.offers(start),
+        };
+        given.offers[..sheet.fields()].copy_from_slice(&offers[..sheet.fields()]);
+    }
+}
+
+/// The positions of a field that fail their tests.
+fn failing(network: &Network, set: &Set, f: usize) -> Vec<usize> {
+    (0..MOST).filter(|v| set[f] >> v & 1 == 1 && !network.passes(set, f, *v)).collect()
+}
+
+/// Tests each setting once, and closes after each removal.
+pub fn one_pass(network: &Network, mut set: Set) -> Set {
+    let every: Vec<usize> = (0..network.fields()).collect();
+    for f in 0..network.fields() {
+        for v in failing(network, &set, f) {
+            set[f] &= !(1 << v);
+            set = network.closing(set, &every);
+        }
+    }
+    set
+}
+
+/// The queue method, where a removal puts back only the fields one rule away.
+pub fn short_queue(network: &Network, mut set: Set, order: &[u8]) -> Set {
+    let every: Vec<usize> = (0..network.fields()).collect();
+    let mut queue: Vec<usize> = order.iter().map(|&f| f.into()).collect();
+    while !queue.is_empty() {
+        let f = queue.remove(0);
+        for v in failing(network, &set, f) {
+            set[f] &= !(1 << v);
+            set = network.closing(set, &every);
+            queue.extend((0..network.fields()).filter(|&g| network.joined(f, g)));
+        }
+    }
+    set
+}
+
+/// Rules of kinds 1 and 2 as tables, with sums modulo 65,536.
+fn wrap(sheet: &mut Sheet) {
+    for rule in sheet.rules.iter_mut().filter(|rule| rule.kind == 1 || rule.kind == 2) {
+        let c = rule.numbers[0];
+        let (one, other) = (&sheet.settings[rule.i], &sheet.settings[rule.j]);
+        let kind = rule.kind;
+        let allowed = |p: u32, q: u32| if kind == 1 { p >= (q + c) % 65_536 } else { q >= (p + c) % 65_536 };
+        let row = |p: u32| (0..other.len()).filter(|&u| allowed(p, other[u])).map(|u| 1 << u).sum();
+        rule.numbers = one.iter().map(|&p| row(p)).collect();
+        rule.kind = 0;
+    }
+}

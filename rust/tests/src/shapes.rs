@@ -1,0 +1,199 @@
+//! Random and structured sheets: rings, cliques, chains, stars, rules of every kind, narrow and wide fields.
+
+use crate::gadgets::far;
+use crate::Random;
+use solver::{Rule, Sheet};
+
+/// How large a sheet may be.
+#[derive(Clone, Copy, Debug, PartialEq, Eq)]
+pub enum Size {
+    /// A few fields and settings.
+    Small,
+    /// Up to 24 fields of few settings, or few fields of up to 24 settings.
+    Long,
+    /// Up to 24 fields of up to 24 settings.
+    Large,
+    /// 24 fields of 24 settings, with a rule for almost every pair of fields.
+    Full,
+}
+
+/// What a sheet is made from.
+struct Frame {
+    fields: usize,
+    settings: usize,
+    reach: u32,
+    /// The fields that have a rule, rising.
+    pairs: Vec<(usize, usize)>,
+}
+
+/// A sheet of this size.
+pub fn sheet(random: &mut Random, size: Size) -> Sheet {
+    match (size, random.below(8)) {
+        (Size::Full, _) | (Size::Small | Size::Large, 0..=3) => return hard(random, size),
+        (Size::Small, 4) => return far(random, &[5, 5, 7, 9, 11]),
+        (Size::Long, 4) => return far(random, &[13, 15, 17, 19, 21]),
+        _ => (),
+    }
+    let (fields, settings) = match size {
+        Size::Small => (random.from(1, 6), random.from(1, 5)),
+        Size::Long if random.one_in(2) => (random.from(6, 24), random.from(1, 3)),
+        Size::Long => (random.from(1, 5), random.from(6, 24)),
+        Size::Large | Size::Full => (random.from(6, 24), random.from(4, 24)),
+    };
+    let reach = if size == Size::Long && random.one_in(2) { random.from(1, 24) as u32 } else { reach(random) };
+    let frame = Frame { fields, settings, reach, pairs: pairs(random, fields) };
+    match random.below(6) {
+        0 => unequal(random, frame),
+        1 => steps(random, frame),
+        2 => masked(random, frame),
+        _ => mixed(random, frame),
+    }
+}
+
+/// A sheet where settings that have support often fail their tests, and removals lead to more.
+fn hard(random: &mut Random, size: Size) -> Sheet {
+    let (fields, settings, share) = match size {
+        Size::Large => (random.from(8, 24), random.from(3, 12), random.pick(&[2, 3, 5])),
+        Size::Full => (24, 24, random.pick(&[8, 10, 10])),
+        _ => (random.from(5, 9), random.from(3, 4), random.pick(&[4, 7, 10])),
+    };
+    let pairs = every(fields).filter(|_| random.below(10) < share).collect();
+    let frame = Frame { fields, settings, reach: random.pick(&[1, 2, 2, 3, 24]), pairs };
+    if random.one_in(3) {
+        unequal(random, frame)
+    } else {
+        masked(random, frame)
+    }
+}
+
+fn reach(random: &mut Random) -> u32 {
+    match random.below(8) {
+        0..=2 => 24,
+        3 => 1,
+        4 | 5 => 2,
+        6 => random.from(3, 5) as u32,
+        _ => random.from(1, 24) as u32,
+    }
+}
+
+/// Every pair of n fields, rising.
+fn every(n: usize) -> impl Iterator<Item = (usize, usize)> {
+    (0..n).flat_map(move |i| (i + 1..n).map(move |j| (i, j)))
+}
+
+/// The rules of a ring of n fields.
+pub fn ring(n: usize) -> Vec<(usize, usize)> {
+    every(n).filter(|&(i, j)| j == i + 1 || (i, j) == (0, n - 1)).collect()
+}
+
+/// Which fields have a rule: none, a chain, a ring, a star, a clique, a tree or any pairs, under any names.
+fn pairs(random: &mut Random, n: usize) -> Vec<(usize, usize)> {
+    let mut pairs: Vec<(usize, usize)> = match random.below(16) {
+        0 => (1..n).map(|j| (j - 1, j)).collect(),
+        1 | 2 => ring(n),
+        3 => (1..n).map(|j| (0, j)).collect(),
+        4 | 5 if n <= 8 => every(n).collect(),
+        6 => (1..n).map(|j| (random.below(j), j)).collect(),
+        7 if random.one_in(4) => vec![],
+        _ => {
+            let share = if n <= 8 { random.from(2, 9) } else { random.from(1, 4) };
+            every(n).filter(|_| random.below(10) < share).collect()
+        }
+    };
+    let names = if random.one_in(4) { random.order(n) } else { (0..n as u8).collect() };
+    for pair in &mut pairs {
+        let (a, b) = (usize::from(names[pair.0]), usize::from(names[pair.1]));
+        *pair = (a.min(b), a.max(b));
+    }
+    pairs.sort_unstable();
+    pairs
+}
+
+/// Settings one apart, some of them missing, and rules that ask for different ones, a few for equal ones.
+fn unequal(random: &mut Random, frame: Frame) -> Sheet {
+    let first = random.pick(&[0, 1, 65_500]);
+    let missing = random.pick(&[4, 1000]);
+    let mut settings: Vec<Vec<u32>> = vec![];
+    for _ in 0..frame.fields {
+        let mut own: Vec<u32> = (first..first + frame.settings.max(2) as u32).filter(|_| !random.one_in(missing)).collect();
+        if own.is_empty() {
+            own.push(first);
+        }
+        settings.push(own);
+    }
+    let rule = |&(i, j): &(usize, usize)| {
+        let (kind, c) = if random.one_in(8) { (random.pick(&[4, 5]), 0) } else { (3, 1) };
+        Rule { i, j, kind, numbers: vec![c] }
+    };
+    Sheet { settings, reach: frame.reach, rules: frame.pairs.iter().map(rule).collect() }
+}
+
+/// Rules that ask for a step up or down, of a few micrometres or of half the range.
+fn steps(random: &mut Random, frame: Frame) -> Sheet {
+    let wide = random.one_in(2);
+    let span = if wide { 65_536 } else { 12 };
+    let settings: Vec<Vec<u32>> = (0..frame.fields).map(|_| rising(random, frame.settings, span)).collect();
+    let mut rules = vec![];
+    for (i, j) in frame.pairs {
+        let kind = random.pick(if wide { &[1, 2] } else { &[1, 2, 2, 2, 3, 4] });
+        let (above, below) = if kind == 1 { (i, j) } else { (j, i) };
+        let most = settings[above].iter().max().unwrap().saturating_sub(settings[below][0]);
+        let c = match kind {
+            _ if wide => random.below(most as usize + 1),
+            4 => random.from(1, 6),
+            _ => random.below(4),
+        };
+        rules.push(Rule { i, j, kind, numbers: vec![c as u32] });
+    }
+    Sheet { settings, reach: frame.reach, rules }
+}
+
+/// Rules of kind 0. The share of allowed pairs is a little above the one at which a random sheet has about one complete set-up.
+fn masked(random: &mut Random, frame: Frame) -> Sheet {
+    let Frame { fields, settings, reach, pairs } = frame;
+    let critical = (settings as f64).powf(-(fields as f64) / pairs.len().max(1) as f64);
+    let allowed = critical + (1.0 - critical) * random.from(10, 60) as f64 / 100.0;
+    let settings: Vec<Vec<u32>> = (0..fields).map(|_| rising(random, settings, 200)).collect();
+    let mut mask = |count: usize| (0..count).filter(|_| (random.below(1000) as f64) < 1000.0 * allowed).map(|u| 1 << u).sum();
+    let mut rules = vec![];
+    for (i, j) in pairs {
+        let numbers = settings[i].iter().map(|_| mask(settings[j].len())).collect();
+        rules.push(Rule { i, j, kind: 0, numbers });
+    }
+    Sheet { settings, reach, rules }
+}
+
+/// Rules of every kind, over a narrow or a wide span.
+fn mixed(random: &mut Random, frame: Frame) -> Sheet {
+    let span = random.pick(&[8, 30, 400, 65_536]);
+    let settings: Vec<Vec<u32>> = (0..frame.fields).map(|_| rising(random, frame.settings, span)).collect();
+    let mut rules = vec![];
+    for (i, j) in frame.pairs {
+        let kind = random.below(6) as u32;
+        let numbers = match kind {
+            0 => settings[i].iter().map(|_| (random.word() | random.word()) as u32 % (1 << settings[j].len())).collect(),
+            4 => vec![random.from(span / 4, span - 1) as u32],
+            5 if random.one_in(2) => vec![random.pick(&settings[i]).abs_diff(random.pick(&settings[j]))],
+            _ if random.one_in(6) => vec![random.pick(&[65_535, 65_534, 60_000, 40_000, 0])],
+            _ => vec![random.below(span / 6 + 1) as u32],
+        };
+        rules.push(Rule { i, j, kind, numbers });
+    }
+    Sheet { settings, reach: frame.reach, rules }
+}
+
+/// Up to d settings below the span or at the top of the range, strictly rising.
+fn rising(random: &mut Random, d: usize, span: usize) -> Vec<u32> {
+    let d = if random.one_in(5) { random.from(1, d) } else { d };
+    let span = span.max(2 * d);
+    let first = if random.one_in(6) { 65_536 - span } else { 0 };
+    let mut settings: Vec<u32> = vec![];
+    while settings.len() < d {
+        let setting = (first + random.below(span)) as u32;
+        if !settings.contains(&setting) {
+            settings.push(setting);
+        }
+    }
+    settings.sort_unstable();
+    settings
+}

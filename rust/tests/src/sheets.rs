@@ -1,0 +1,102 @@
+//! Sheets as numbers and bytes, and damaged ones.
+
+use crate::Random;
+use solver::reading::groups;
+use solver::Sheet;
+
+/// The list of numbers of a sheet.
+pub fn numbers(sheet: &Sheet) -> Vec<u32> {
+    let mut numbers = vec![sheet.fields() as u32];
+    for settings in &sheet.settings {
+        numbers.push(settings.len() as u32);
+        numbers.extend(settings);
+    }
+    numbers.extend([sheet.reach, sheet.rules.len() as u32]);
+    for rule in &sheet.rules {
+        numbers.extend([rule.i as u32, rule.j as u32, rule.kind]);
+        numbers.extend(&rule.numbers);
+    }
+    numbers
+}
+
+/// The bytes of a sheet.
+pub fn bytes(sheet: &Sheet) -> Vec<u8> {
+    groups(&numbers(sheet))
+}
+
+/// A number that is often at the edge of some range.
+pub fn edge(random: &mut Random) -> u32 {
+    match random.below(8) {
+        0 => random.below(30) as u32,
+        1 => random.from(65_534, 65_537) as u32,
+        2 => random.from((1 << 28) - 2, (1 << 28) + 1) as u32,
+        3 => u32::MAX - random.below(2) as u32,
+        4 => 0,
+        5 => 1 << random.below(32),
+        6 => (1u64 << random.below(33)).wrapping_sub(1) as u32,
+        _ => random.below(300) as u32,
+    }
+}
+
+/// Changes, cuts or extends a list of numbers.
+pub fn damage_numbers(random: &mut Random, numbers: &mut Vec<u32>) {
+    for _ in 0..random.from(1, 2) {
+        let at = random.below(numbers.len() + 1);
+        match random.below(8) {
+            0 => numbers.truncate(at),
+            1 => numbers.push(edge(random)),
+            2 => numbers.insert(at, edge(random)),
+            3 if at < numbers.len() => drop(numbers.remove(at)),
+            4 if at + 1 < numbers.len() => numbers.swap(at, at + 1),
+            5 if at + 1 < numbers.len() => numbers[at + 1] = numbers[at],
+            _ if at < numbers.len() => numbers[at] = edge(random),
+            _ => (),
+        }
+    }
+}
+
+/// Where each number of some bytes ends.
+fn ends(bytes: &[u8]) -> Vec<usize> {
+    (0..bytes.len()).filter(|&place| bytes[place] < 128).collect()
+}
+
+/// Changes, cuts or extends bytes, or writes a number in more groups than it needs.
+pub fn damage_bytes(random: &mut Random, bytes: &mut Vec<u8>) {
+    let at = random.below(bytes.len() + 1);
+    let ends = ends(bytes);
+    match random.below(9) {
+        0 => bytes.truncate(at),
+        1 => bytes.extend((0..random.from(1, 4)).map(|_| random.pick(&[0, 1, 128, 255]))),
+        2 => bytes.insert(at, random.below(256) as u8),
+        3 if at < bytes.len() => drop(bytes.remove(at)),
+        4 if !ends.is_empty() => {
+            let end = random.pick(&ends);
+            let more = random.from(1, 4);
+            bytes[end] |= 128;
+            (1..more).for_each(|_| bytes.insert(end + 1, 128));
+            bytes.insert(end + more, 0);
+        }
+        5 if !ends.is_empty() => {
+            bytes.truncate(random.pick(&ends));
+            bytes.extend(vec![128 + random.below(2) as u8; random.from(1, 5)]);
+        }
+        6 if at < bytes.len() => bytes[at] ^= 128,
+        7 if at < bytes.len() => bytes[at] ^= 1 << random.below(7),
+        _ if at < bytes.len() => bytes[at] = random.below(256) as u8,
+        _ => (),
+    }
+}
+
+/// The bytes of a sheet after some damage; now and then they are a sheet again.
+pub fn damaged(random: &mut Random, sheet: &Sheet) -> Vec<u8> {
+    let mut numbers = numbers(sheet);
+    let by_numbers = random.one_in(2);
+    if by_numbers {
+        damage_numbers(random, &mut numbers);
+    }
+    let mut bytes = groups(&numbers);
+    if !by_numbers || random.one_in(4) {
+        damage_bytes(random, &mut bytes);
+    }
+    bytes
+}

@@ -1,0 +1,72 @@
+//! How often each call gave each number, and which sheets it met.
+
+use solver::{Call, Sheet};
+use std::collections::BTreeSet;
+use std::fmt;
+
+const NAMES: [&str; 8] = ["open", "show", "choose", "strike", "withdraw-choice", "withdraw-strike", "back", "coil-on"];
+
+/// The name of a call, as it is printed and replayed.
+pub fn name(call: Call) -> &'static str {
+    NAMES[place(call)]
+}
+
+fn place(call: Call) -> usize {
+    match call {
+        Call::Open => 0,
+        Call::Show => 1,
+        Call::Choose(..) => 2,
+        Call::Strike(..) => 3,
+        Call::WithdrawChoice(..) => 4,
+        Call::WithdrawStrike(..) => 5,
+        Call::Back => 6,
+        Call::CoilOn => 7,
+    }
+}
+
+#[derive(Clone, Debug, Default)]
+pub struct Tally {
+    counts: [[u64; 16]; 8],
+    pub fields: BTreeSet<usize>,
+    pub settings: BTreeSet<usize>,
+    pub reaches: BTreeSet<u32>,
+    pub kinds: BTreeSet<u32>,
+}
+
+impl Tally {
+    pub fn add(&mut self, call: Call, number: u32) {
+        self.counts[place(call)][number as usize] += 1;
+    }
+
+    pub fn meet(&mut self, sheet: &Sheet) {
+        self.fields.insert(sheet.fields());
+        self.settings.extend(sheet.settings.iter().map(Vec::len));
+        self.reaches.insert(sheet.reach);
+        self.kinds.extend(sheet.rules.iter().map(|rule| rule.kind));
+    }
+
+    /// How many calls there were.
+    pub fn calls(&self) -> u64 {
+        self.counts.iter().flatten().sum()
+    }
+
+    /// How many calls gave this number.
+    pub fn number(&self, number: u32) -> u64 {
+        self.counts.iter().map(|counts| counts[number as usize]).sum()
+    }
+}
+
+impl fmt::Display for Tally {
+    fn fmt(&self, formatter: &mut fmt::Formatter) -> fmt::Result {
+        writeln!(formatter, "{} calls, {} accepted", self.calls(), self.number(0))?;
+        for (name, counts) in NAMES.iter().zip(&self.counts) {
+            write!(formatter, "{name:>16}")?;
+            for (number, count) in counts.iter().enumerate().filter(|(_, &count)| count > 0) {
+                write!(formatter, "  {number}: {count}")?;
+            }
+            writeln!(formatter)?;
+        }
+        let (fields, settings) = (self.fields.len(), self.settings.len());
+        write!(formatter, "{fields} counts of fields, {settings} of settings, {} reaches, {} kinds", self.reaches.len(), self.kinds.len())
+    }
+}

@@ -1,0 +1,110 @@
+//! The worked cases of the scope paper, through the wrapper, with every engine that the reach allows.
+
+use belaykeel::{Engine, Offers, Order, Refusal, Session, Sheet, WorkSpaces};
+use solver::Call;
+
+const SHEET_D: [u8; 19] =
+    [0x02, 0x03, 0x64, 0xC8, 0x01, 0xAC, 0x02, 0x03, 0x64, 0xC8, 0x01, 0xAC, 0x02, 0x18, 0x01, 0x00, 0x01, 0x01, 0x64];
+
+fn call(session: &mut Session, sheet: &Sheet, engine: Engine, call: Call, spaces: &mut WorkSpaces) -> Result<Offers, Refusal> {
+    let order = &Order::Rising;
+    match call {
+        Call::Open => session.open(sheet, engine, order, spaces),
+        Call::Show => session.show(sheet, engine, order, spaces),
+        Call::Choose(f, v) => session.choose(sheet, engine, order, f, v, spaces),
+        Call::Strike(f, v) => session.strike(sheet, engine, order, f, v, spaces),
+        Call::WithdrawChoice(f, v) => session.withdraw_choice(sheet, engine, order, f, v, spaces),
+        Call::WithdrawStrike(f, v) => session.withdraw_strike(sheet, engine, order, f, v, spaces),
+        Call::Back => session.back(sheet, engine, order, spaces),
+        Call::CoilOn => session.coil_on(sheet, engine, order, spaces),
+    }
+}
+
+/// What the last of these calls gives: the masks or the number. The calls before it are accepted.
+fn last(sheet: &Sheet, engine: Engine, calls: &[Call]) -> Result<Vec<u32>, u32> {
+    let mut spaces = WorkSpaces::new();
+    let mut session = Session::default();
+    let (&end, before) = calls.split_last().expect("a call");
+    for &one in before {
+        call(&mut session, sheet, engine, one, &mut spaces).expect("an accepted call");
+    }
+    let answer = call(&mut session, sheet, engine, end, &mut spaces);
+    answer.map(|offers| offers.masks().to_vec()).map_err(Refusal::number)
+}
+
+/// Fields {1, 2} with a distance of at least 1 for each of these pairs.
+fn unequal(fields: u32, reach: u32, pairs: &[(u32, u32)]) -> Sheet {
+    let mut numbers = vec![fields];
+    (0..fields).for_each(|_| numbers.extend([2, 1, 2]));
+    numbers.extend([reach, pairs.len() as u32]);
+    pairs.iter().for_each(|&(i, j)| numbers.extend([i, j, 3, 1]));
+    Sheet::write(&numbers).expect("a sheet")
+}
+
+#[test]
+fn sheet_d() {
+    use Call::{Back, Choose, CoilOn, Open, Show, Strike, WithdrawChoice, WithdrawStrike};
+    let sheet = Sheet::from_bytes(SHEET_D);
+    for engine in Engine::ALL {
+        let last = |calls: &[Call]| last(&sheet, engine, calls);
+        assert_eq!(last(&[Open]), Ok(vec![6, 3]));
+        assert_eq!(last(&[Open, Show]), Ok(vec![6, 3]));
+        assert_eq!(last(&[Open, Strike(0, 2)]), Ok(vec![2, 1]));
+        assert_eq!(last(&[Open, Strike(0, 2), Choose(1, 1)]), Err(14));
+        assert_eq!(last(&[Open, Strike(0, 2), Choose(1, 0), WithdrawStrike(0, 2)]), Ok(vec![6, 1]));
+        assert_eq!(last(&[Open, Strike(0, 2), Choose(1, 0), WithdrawStrike(0, 2), Back]), Ok(vec![2, 1]));
+        assert_eq!(last(&[Open, Strike(0, 2), Choose(1, 0), CoilOn, WithdrawChoice(1, 0)]), Ok(vec![2, 1]));
+        assert_eq!(last(&[Open, Choose(0, 0)]), Err(14));
+        assert_eq!(last(&[Open, Strike(0, 0)]), Ok(vec![6, 3]));
+        assert_eq!(last(&[Open, Strike(0, 0), Strike(0, 0)]), Err(10));
+        assert_eq!(last(&[Open, WithdrawStrike(0, 0)]), Err(11));
+        assert_eq!(last(&[Open, Strike(0, 0), CoilOn, Back]), Err(13));
+        assert_eq!(last(&[Open, Strike(2, 0)]), Err(7));
+        assert_eq!(last(&[Open, Strike(0, 3)]), Err(7));
+    }
+}
+
+#[test]
+fn triangles_and_rings() {
+    let triangle = [(0, 1), (0, 2), (1, 2)];
+    let ring = [(0, 1), (0, 4), (1, 2), (2, 3), (3, 4)];
+    let one = Sheet::from_bytes([0x01, 0x01, 0xAC, 0x02, 0x18, 0x00]);
+    for engine in Engine::ALL {
+        assert_eq!(last(&one, engine, &[Call::Open]), Ok(vec![1]));
+        assert_eq!(last(&unequal(3, 24, &triangle), engine, &[Call::Open]), Err(14));
+    }
+    for engine in [Engine::Sac1, Engine::Queue] {
+        assert_eq!(last(&unequal(3, 1, &triangle), engine, &[Call::Open]), Err(14));
+        assert_eq!(last(&unequal(4, 1, &triangle), engine, &[Call::Open]), Err(14));
+        assert_eq!(last(&unequal(5, 1, &ring), engine, &[Call::Open]), Ok(vec![3; 5]));
+        assert_eq!(last(&unequal(5, 2, &ring), engine, &[Call::Open]), Err(14));
+    }
+    assert_eq!(last(&unequal(5, 2, &ring), Engine::Sac2, &[Call::Open]), Err(8));
+}
+
+#[test]
+fn sixty_four_events() {
+    let sheet = Sheet::from_bytes(SHEET_D);
+    for engine in Engine::ALL {
+        let mut calls = vec![Call::Open];
+        for _ in 0..32 {
+            calls.extend([Call::Strike(0, 0), Call::WithdrawStrike(0, 0)]);
+        }
+        assert_eq!(last(&sheet, engine, &calls), Ok(vec![6, 3]));
+        calls.push(Call::Strike(0, 0));
+        assert_eq!(last(&sheet, engine, &calls), Err(12));
+    }
+}
+
+#[test]
+fn ranges_and_groups() {
+    let written = |numbers: &[u32]| Sheet::write(numbers).map(|sheet| sheet.read().expect("a sheet"));
+    let one_field = |setting| [1, 1, setting, 24, 0];
+    assert_eq!(written(&one_field(65_535)), Ok(one_field(65_535).to_vec()));
+    assert_eq!(written(&one_field(65_536)), Err(Refusal::OutOfRange));
+    let fields = |n: u32| [vec![n], [1, 7].repeat(n as usize), vec![1, 0]].concat();
+    assert_eq!(written(&fields(24)), Ok(fields(24)));
+    assert_eq!(written(&fields(25)), Err(Refusal::OutOfRange));
+    assert_eq!(Sheet::from_bytes([0x80, 0x00]).read(), Err(Refusal::IllFormedNumber));
+    assert_eq!(written(&[2, 1, 0, 1, 0, 24, 1, 1, 1, 5, 0]), Err(Refusal::NotRising));
+}

@@ -1,0 +1,134 @@
+//! Reading and writing against the solver: random, damaged and cut sheets, outputs of any length, and short strings of bytes of every sort.
+
+use belaykeel::raw::{self, Answer};
+use solver::reading;
+use tests::drive::environment;
+use tests::shapes::{self, Size};
+use tests::sheets::{damage_bytes, damage_numbers, numbers};
+use tests::shrink::shorter;
+use tests::Random;
+
+/// Whether an answer and an output are the solver's: 0, the length and the list at the front of the output, or the number and nothing written.
+fn right<T: Copy + PartialEq>(answer: Answer, output: &[T], mark: T, expected: Result<Vec<T>, u32>) -> bool {
+    let (number, list) = expected.map_or_else(|number| (number, vec![]), |list| (0, list));
+    let front = output.len().min(list.len());
+    (answer.number, answer.length) == (number, list.len()) && output[..front] == list && output[front..].iter().all(|&word| word == mark)
+}
+
+/// What reading answers, and whether it is right.
+fn read(bytes: &[u8], room: usize) -> (Answer, bool) {
+    const MARK: u32 = 0xA7A6_A5A4;
+    let mut output = vec![MARK; room];
+    let answer = raw::read(bytes, &mut output);
+    (answer, right(answer, &output, MARK, reading::read(bytes, room)))
+}
+
+/// What writing answers, and whether it is right.
+fn write(numbers: &[u32], room: usize) -> (Answer, bool) {
+    const MARK: u8 = 0xA7;
+    let mut output = vec![MARK; room];
+    let answer = raw::write(numbers, &mut output);
+    (answer, right(answer, &output, MARK, reading::write(numbers, room)))
+}
+
+fn same_read(bytes: &[u8], room: usize) -> u32 {
+    let (answer, right) = read(bytes, room);
+    if !right {
+        let small = shorter(bytes.to_vec(), &|bytes| !read(bytes, room).1);
+        let (answer, expected) = (read(&small, room).0, reading::read(&small, room));
+        panic!("reading {small:02X?} with room for {room}: {answer:?}, expected {expected:?}");
+    }
+    answer.number
+}
+
+fn same_write(numbers: &[u32], room: usize) -> u32 {
+    let (answer, right) = write(numbers, room);
+    if !right {
+        let small = shorter(numbers.to_vec(), &|numbers| !write(numbers, room).1);
+        let (answer, expected) = (write(&small, room).0, reading::write(&small, room));
+        panic!("writing {small:?} with room for {room}: {answer:?}, expected {expected:?}");
+    }
+    answer.number
+}
+
+/// Room for as much as is needed, one less, or any.
+fn room(random: &mut Random, needed: usize) -> usize {
+    match random.below(4) {
+        0 => needed,
+        1 => needed.saturating_sub(1),
+        2 => needed + random.below(5),
+        _ => random.below(needed + 1),
+    }
+}
+
+#[test]
+fn random_sheets() {
+    let seed = environment("BELAYKEEL_SEED", 1);
+    println!("BELAYKEEL_SEED={seed}");
+    let mut random = Random(seed);
+    let (mut read, mut written) = ([0u64; 7], [0u64; 7]);
+    for _ in 0..environment("BELAYKEEL_CALLS", 200_000) / 4 {
+        let size = if random.one_in(50) { Size::Long } else { Size::Small };
+        let mut numbers = numbers(&shapes::sheet(&mut random, size));
+        if random.one_in(2) {
+            damage_numbers(&mut random, &mut numbers);
+        }
+        let mut bytes = reading::groups(&numbers);
+        written[same_write(&numbers, room(&mut random, bytes.len())) as usize] += 1;
+        if random.one_in(2) {
+            damage_bytes(&mut random, &mut bytes);
+        }
+        read[same_read(&bytes, room(&mut random, numbers.len())) as usize] += 1;
+    }
+    println!("read {read:?}, written {written:?}");
+    assert!(read.iter().all(|&count| count > 0), "{read:?}");
+    assert!([0, 1, 3, 4, 5, 6].iter().all(|&number| written[number] > 0), "{written:?}");
+}
+
+#[test]
+fn short_strings_of_bytes() {
+    let choices: [u8; 12] = [0, 1, 2, 5, 24, 25, 100, 127, 128, 129, 200, 255];
+    let starts: [&[u8]; 5] = [&[], &[1, 1], &[1, 1, 0, 24], &[1, 1, 0, 24, 0], &[3, 1, 0, 1, 0, 2, 0, 9, 24, 2, 0, 1, 4, 9]];
+    for length in 0..5 {
+        for mut code in 0..choices.len().pow(length) {
+            let mut end = vec![];
+            for _ in 0..length {
+                end.push(choices[code % choices.len()]);
+                code /= choices.len();
+            }
+            for start in starts {
+                same_read(&[start, &end].concat(), 20);
+            }
+        }
+    }
+}
+
+/// The numbers of the largest sheet: 24 fields of 24 settings in three groups, 276 rules of 24 masks in four.
+fn largest() -> Vec<u32> {
+    let mut numbers = vec![24];
+    for _ in 0..24 {
+        numbers.push(24);
+        numbers.extend(65_512..65_536);
+    }
+    numbers.extend([24, 276]);
+    for (i, j) in (0..24).flat_map(|i| (i + 1..24).map(move |j| (i, j))) {
+        numbers.extend([i, j, 0]);
+        numbers.extend([(1 << 24) - 1; 24]);
+    }
+    numbers
+}
+
+#[test]
+fn the_largest_sheet() {
+    let numbers = largest();
+    let mut bytes = reading::groups(&numbers);
+    assert_eq!((numbers.len(), bytes.len()), (8_055, 29_080));
+    assert_eq!((same_read(&bytes, 8_055), same_read(&bytes, 8_054)), (0, 6));
+    assert_eq!((same_write(&numbers, 29_080), same_write(&numbers, 29_079)), (0, 6));
+    for at in (0..bytes.len()).step_by(487) {
+        same_read(&bytes[..at], 9_000);
+    }
+    bytes.push(0);
+    assert_eq!(same_read(&bytes, 9_000), 5);
+    assert_eq!(same_write(&[numbers, vec![0]].concat(), 30_000), 5);
+}

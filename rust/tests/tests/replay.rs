@@ -1,0 +1,32 @@
+//! Replays a case that was printed: BELAYKEEL_REPLAY names a file with its text. Without it, one case that is kept here.
+
+use tests::linked::Linked;
+use tests::runner::run;
+use tests::text::{parse, print};
+
+const KEPT: &str = "\
+sheet 02 03 64 C8 01 AC 02 03 64 C8 01 AC 02 18 01 00 01 01 64
+session 3:7 240:65
+open engine 1 offers 24 rows 13248 memory 13824 fill word 0 order 0 1
+strike 0 2 engine 2 offers 25 rows 13248 memory 13824 fill noise 7 order 1 0
+show engine 0 offers 24 rows 0 memory 13824 fill left order 1 1 sheet 80 00
+session 0:1 48:1 240:1
+back engine 3 offers 24 rows 13248 memory 13825 fill left order 1 0
+";
+
+#[test]
+fn replay() {
+    let text = match std::env::var_os("BELAYKEEL_REPLAY") {
+        Some(path) => std::fs::read_to_string(path).expect("a file to replay"),
+        None => KEPT.to_string(),
+    };
+    let case = parse(&text);
+    if let Err((step, differs)) = run(&mut Linked, &case) {
+        panic!("{}step {}: {differs}", print(&case), step + 1);
+    }
+}
+
+#[test]
+fn what_is_printed_is_read_again() {
+    assert_eq!(print(&parse(KEPT)), KEPT);
+}
