@@ -7,3 +7,4 @@ pub mod Orders
 pub mod Judging
 pub mod Sound
 pub mod Theorems
+pub mod Cases
