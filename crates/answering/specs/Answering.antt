@@ -13,9 +13,9 @@ use Rattle.masks.specs.Tests.{never, bool-cases, and-l, and-r}
 use Rattle.sheet.specs.Pick.{pick, pick-true, pick-false}
 use Rattle.sheet.specs.Judge.{refusal, numbers, ofBytes, Accepted, Gives, Outcome, giving, refusing, reading}
 use Rattle.sheet.specs.declared.answer.Answer.{Answer as Read}
-use Rattle.sheet.specs.Accept.{bytes-accepted}
-use Rattle.sheet.specs.Theorems.{enough-room, most-sheet-numbers}
-use Rattle.sheet.specs.Parts.{fieldsOf}
+use Rattle.accepted.specs.Accept.{bytes-accepted}
+use Rattle.accepted.specs.Theorems.{enough-room, most-sheet-numbers}
+use Rattle.accepted.specs.Parts.{fieldsOf}
 use Rattle.ledger.specs.declared.Call.{Call}
 use Rattle.ledger.specs.declared.Call.the-variants.{Open, Show, Choose, Strike, WithdrawChoice, WithdrawStrike, Back, CoilOn}
 use Rattle.ledger.specs.Ledger.{Given, Ledger, changeOf, step, wiped, offersOf, tooShort, number, first, judged, causes, isOrder}

@@ -11,7 +11,7 @@ use borrow.Author.Tests.{eqb-true, eqb-false, eq-eqb, ne-eqb, lt-ltb, le-ltb}
 use Rattle.masks.specs.Tests.{never, bool-cases, and-l, and-r}
 use Rattle.sheet.specs.Pick.{pick}
 use Rattle.sheet.specs.Judge.{Accepted}
-use Rattle.sheet.specs.Parts.{reachOf}
+use Rattle.accepted.specs.Parts.{reachOf}
 use Rattle.ledger.specs.declared.Call.{Call}
 use Rattle.ledger.specs.declared.Call.the-variants.{Open, Show, Choose, Strike, WithdrawChoice, WithdrawStrike, Back, CoilOn}
 use Rattle.ledger.specs.Ledger.{Decision, choice, strike, Event, Change, adds, withdraws, neither, changeOf, inForce, onSheet, offSheet, unknownArgument, addedAgain, withdrawnUnheld, noRoom, mostEvents}

@@ -21,8 +21,8 @@ use Rattle.consistency.specs.Offers.{offers, offers-is, wipedOut}
 use Rattle.consistency.specs.Padding.{offers-pad}
 use Rattle.sheet.specs.Pick.{pick, pick-true, pick-false}
 use Rattle.sheet.specs.Judge.{Accepted}
-use Rattle.sheet.specs.Parts.{fieldsOf, countOf, reachOf}
-use Rattle.sheet.specs.Facts.{facts}
+use Rattle.accepted.specs.Parts.{fieldsOf, countOf, reachOf}
+use Rattle.accepted.specs.Facts.{facts}
 use Rattle.network.specs.Tables.{bothTables}
 use Rattle.network.specs.SheetProblem.{sheetProblem}
 use Rattle.engines.specs.Engine.{IsOrder, Offered}

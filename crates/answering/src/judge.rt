@@ -4,11 +4,12 @@ ghost use mathlib.Core.Bool.{_&&_};
 ghost use Prim.Native.Nat.{_≤_};
 ghost use lib.Dec.{eqb, ltb};
 ghost use Rattle.sheet.specs.Judge.{Accepted};
-ghost use Rattle.sheet.specs.Parts.{reachOf};
+ghost use Rattle.accepted.specs.Parts.{reachOf};
 ghost use Rattle.ledger.specs.Ledger.{changeOf, isOpen, isBack, malformed, unknownArgument, addedAgain, withdrawnUnheld, nothingPast, noRoom, first, judged};
 ghost use Rattle.session.specs.Events.{past};
 ghost use Rattle.session.specs.View.{decisionsOf, decisionsIn, view};
 ghost use Rattle.answering.specs.Changes.{changeIn, Low};
+use accepted::parts;
 use ledger::Call;
 use session::Event;
 use session::Session;
@@ -16,7 +17,6 @@ use session::decisions::held;
 use session::form;
 use session::order::is_order;
 use session::steps::in_force;
-use sheet::parts;
 
 // The event that a call would add; kind 0 where it adds none.
 fn event_of(call: Call) -> Event

@@ -5,16 +5,16 @@ ghost use mathlib.Core.List.{_++_};
 ghost use Prim.Native.Nat.{_≤_};
 ghost use lib.ListN.{length, take, drop};
 ghost use Rattle.sheet.specs.Judge.{Accepted};
-ghost use Rattle.sheet.specs.Parts.{fieldsOf};
+ghost use Rattle.accepted.specs.Parts.{fieldsOf};
 ghost use Rattle.ledger.specs.Ledger.{isOrder};
 ghost use Rattle.session.specs.View.{decisionsOf, decisionsIn};
 ghost use Rattle.answering.specs.Settle.{SettleAsks, Settled};
+use accepted::parts;
 use offering::offer;
 use session::Outcome;
 use session::Session;
 use session::start::start;
 use session::steps::in_force;
-use sheet::parts;
 
 // Wiped out under the decisions that would hold after the call.
 const WIPED_OUT: u32 = 14;

@@ -4,7 +4,7 @@ use Prim.Native.Nat.{ℕ, zero, suc}
 use lib.ListN.{length}
 use Rattle.sheet.specs.Pick.{pick}
 use Rattle.sheet.specs.Judge.{numbers, ofBytes}
-use Rattle.sheet.specs.Parts.{fieldsOf}
+use Rattle.accepted.specs.Parts.{fieldsOf}
 use Rattle.ledger.specs.declared.Call.{Call}
 use Rattle.ledger.specs.Lists.{tabulate}
 use Rattle.ledger.specs.Ledger.{Given, Ledger, number, after}

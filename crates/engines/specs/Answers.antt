@@ -7,8 +7,8 @@ use lib.ListN.{getD}
 use Rattle.consistency.specs.Problem.{Problem, in-allFields}
 use Rattle.consistency.specs.Neighbourhood.{neighbourhood, neighbourhood-bound, neighbourhood-self, neighbourhood-symmetric}
 use Rattle.sheet.specs.Judge.{Accepted}
-use Rattle.sheet.specs.Parts.{reachOf}
-use Rattle.sheet.specs.Facts.{facts}
+use Rattle.accepted.specs.Parts.{reachOf}
+use Rattle.accepted.specs.Facts.{facts}
 use Rattle.network.specs.Tables.{problemOf}
 use Rattle.network.specs.SheetProblem.{sheetProblem, sheet-symmetric}
 use Rattle.network.specs.Network.{NetworkOf}

@@ -1,6 +1,6 @@
 // Finding the offers of a set, for the benchmark of the engines: a slice is a pointer and a length.
 ghost use lib.ListN.{take};
-ghost use Rattle.sheet.specs.Parts.{reachOf};
+ghost use Rattle.accepted.specs.Parts.{reachOf};
 ghost use Rattle.network.specs.SheetProblem.{sheetProblem};
 ghost use Rattle.engines.specs.Engine.{Offered};
 ghost use Rattle.offering.specs.Offering.{OfferAsks};

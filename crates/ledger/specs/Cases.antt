@@ -19,8 +19,8 @@ use Rattle.sheet.specs.Pick.{pick}
 use Rattle.sheet.specs.Groups.{groups, numberAt}
 use Rattle.sheet.specs.Grammar.{step as sheetStep}
 use Rattle.sheet.specs.Judge.{judge, numbers, items}
-use Rattle.sheet.specs.Parts.{fieldStart, ruleStart}
-use Rattle.sheet.specs.Cases.{D}
+use Rattle.accepted.specs.Parts.{fieldStart, ruleStart}
+use Rattle.accepted.specs.Cases.{D}
 use Rattle.network.specs.SheetProblem.{runs, pairs, sheetProblem}
 use Rattle.ledger.specs.declared.Call.{Call}
 use Rattle.ledger.specs.declared.Call.the-variants.{Open, Show, Choose, Strike, WithdrawChoice, WithdrawStrike, Back, CoilOn}

@@ -11,7 +11,7 @@ use borrow.Author.Tests.{eqb-true, eqb-false, ltb-false}
 use Rattle.masks.specs.Tests.{never, eq-cases}
 use Rattle.sheet.specs.Pick.{pick, pick-true, pick-false}
 use Rattle.sheet.specs.Judge.{refusal, numbers, ofBytes}
-use Rattle.sheet.specs.Parts.{fieldsOf, reachOf}
+use Rattle.accepted.specs.Parts.{fieldsOf, reachOf}
 use Rattle.ledger.specs.declared.Call.{Call}
 use Rattle.ledger.specs.Ledger.{Ledger, Given, changeOf, step, wiped, tooShort, allOnSheet, reversible, illFormed, malformed, unknownArgument, isOrder, addedAgain, withdrawnUnheld, nothingPast, noRoom, Cause, because, first, judged, causes, number}
 

@@ -13,7 +13,7 @@ use Rattle.masks.specs.Masks.{maskOf}
 use Rattle.consistency.specs.Offers.{offers, wipedOut}
 use Rattle.sheet.specs.Pick.{pick, pick-true, pick-false}
 use Rattle.sheet.specs.Judge.{numbers, ofBytes}
-use Rattle.sheet.specs.Parts.{fieldsOf, countOf, reachOf}
+use Rattle.accepted.specs.Parts.{fieldsOf, countOf, reachOf}
 use Rattle.network.specs.SheetProblem.{sheetProblem}
 use Rattle.ledger.specs.Lists.{tabulate}
 use Rattle.ledger.specs.declared.Call.{Call}

@@ -10,7 +10,7 @@ use Rattle.masks.specs.Masks.{maskOf}
 use Rattle.consistency.specs.Offers.{offers, wipedOut}
 use Rattle.sheet.specs.Pick.{pick}
 use Rattle.sheet.specs.Judge.{refusal, numbers, ofBytes}
-use Rattle.sheet.specs.Parts.{fieldsOf, countOf, reachOf}
+use Rattle.accepted.specs.Parts.{fieldsOf, countOf, reachOf}
 use Rattle.network.specs.SheetProblem.{sheetProblem}
 use Rattle.ledger.specs.Lists.{tabulate, occurrences}
 use Rattle.ledger.specs.declared.Call.{Call}

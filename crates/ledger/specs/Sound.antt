@@ -11,7 +11,7 @@ use borrow.Author.Tests.{eqb-true, eqb-false, le-ltb}
 use Rattle.masks.specs.Tests.{never, not-so, bool-cases, and-l, and-r, and-by, or-l, or-r, or-at}
 use Rattle.sheet.specs.Pick.{pick, pick-true, pick-false}
 use Rattle.sheet.specs.Judge.{refusal, numbers, ofBytes}
-use Rattle.sheet.specs.Refused.{refusal-few}
+use Rattle.accepted.specs.Refused.{refusal-few}
 use Rattle.ledger.specs.declared.Call.{Call}
 use Rattle.ledger.specs.declared.Call.the-variants.{Open, Show, Choose, Strike, WithdrawChoice, WithdrawStrike, Back, CoilOn}
 use Rattle.ledger.specs.Ledger.{Decision, choice, strike, Event, added, withdrawn, unknown, Ledger, same, inForce, with, without, isOpen, empty, adding, withdrawing, reversed, step, Given, tooShort, onSheet, allOnSheet, reversible, illFormed, malformed, offSheet, unknownArgument, addedAgain, withdrawnUnheld, noRoom, changeOf, Cause, because, first, judged, causes, number, after}

@@ -16,7 +16,7 @@ use Rattle.consistency.specs.SetUps as setUps
 use Rattle.consistency.specs.Problem.{SetUp}
 use Rattle.sheet.specs.Pick.{pick, pick-true, pick-false}
 use Rattle.sheet.specs.Judge.{refusal, numbers, ofBytes}
-use Rattle.sheet.specs.Parts.{fieldsOf, countOf, reachOf}
+use Rattle.accepted.specs.Parts.{fieldsOf, countOf, reachOf}
 use Rattle.network.specs.SheetProblem.{sheetProblem}
 use Rattle.ledger.specs.declared.Call.{Call}
 use Rattle.ledger.specs.declared.Call.the-variants.{Open, Show, Choose, Strike, WithdrawChoice, WithdrawStrike, Back, CoilOn}

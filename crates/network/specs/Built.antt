@@ -14,9 +14,9 @@ use Rattle.masks.specs.Bits.{bit, bit-of-zero}
 use Rattle.masks.specs.Masks.{maskOf, bit-maskOf}
 use Rattle.consistency.specs.Problem.{Problem, Symmetric}
 use Rattle.sheet.specs.Judge.{Accepted}
-use Rattle.sheet.specs.Parts.{fieldsOf, countOf, rulesOf, firstOf, secondOf, ruleAllows}
-use Rattle.sheet.specs.Facts.{Facts, facts}
-use Rattle.sheet.specs.Order.{no-pair-twice}
+use Rattle.accepted.specs.Parts.{fieldsOf, countOf, rulesOf, firstOf, secondOf, ruleAllows}
+use Rattle.accepted.specs.Facts.{Facts, facts}
+use Rattle.accepted.specs.Order.{no-pair-twice}
 use Rattle.network.specs.Slots.{slot, slot-bound}
 use Rattle.network.specs.Tables.{tableWords, rowsOf, problemOf, Wired}
 use Rattle.network.specs.SheetProblem.{runs, runs-at, pairs, joins, allowsPair, sheetProblem, sheet-symmetric}

@@ -18,9 +18,9 @@ use Rattle.masks.specs.Masks.{maskOf, bit-maskOf, maskOf-lt, maskOf-suc, digit}
 use Rattle.masks.specs.Words.{bit-or, bit-one}
 use Rattle.masks.specs.Sets.{getD-zeros}
 use Rattle.sheet.specs.Judge.{Accepted}
-use Rattle.sheet.specs.Parts.{fieldsOf, countOf, rulesOf, ruleStart, firstOf, secondOf, ruleAllows, RuleAt}
-use Rattle.sheet.specs.Facts.{Facts, facts}
-use Rattle.sheet.specs.Order.{no-pair-twice}
+use Rattle.accepted.specs.Parts.{fieldsOf, countOf, rulesOf, ruleStart, firstOf, secondOf, ruleAllows, RuleAt}
+use Rattle.accepted.specs.Facts.{Facts, facts}
+use Rattle.accepted.specs.Order.{no-pair-twice}
 use Rattle.network.specs.Slots.{slot, slot-bound, slot-unique}
 use Rattle.network.specs.Tables.{tableWords, bothTables, forwardOf, turnedOf, tables-room}
 use Rattle.network.specs.SheetProblem.{runs, runs-at, joins}

@@ -6,8 +6,8 @@ use lib.ListN.{getD}
 use Rattle.consistency.specs.Problem.{Problem}
 use Rattle.consistency.specs.Neighbourhood.{neighbourhood}
 use Rattle.sheet.specs.Judge.{Accepted}
-use Rattle.sheet.specs.Parts.{fieldsOf, reachOf, rulesOf}
-use Rattle.sheet.specs.Facts.{facts}
+use Rattle.accepted.specs.Parts.{fieldsOf, reachOf, rulesOf}
+use Rattle.accepted.specs.Facts.{facts}
 use Rattle.network.specs.Tables.{problemOf, Wired}
 use Rattle.network.specs.SheetProblem.{sheetProblem}
 use Rattle.network.specs.Built.{Holds, tables-hold, tables-wired}

@@ -8,9 +8,9 @@ use lib.Dec.{ltb}
 use borrow.Author.Tests.{lt-ltb, le-ltb}
 use Rattle.masks.specs.Masks.{maskOf}
 use Rattle.sheet.specs.Judge.{Accepted}
-use Rattle.sheet.specs.Parts.{fieldsOf, fieldStart, countOf, rulesOf, ruleStart, firstOf, secondOf, kindOf, numberOf, settingOf, ruleAllows, FieldAt, RuleAt}
-use Rattle.sheet.specs.Kinds.{allows}
-use Rattle.sheet.specs.Facts.{Facts, facts}
+use Rattle.accepted.specs.Parts.{fieldsOf, fieldStart, countOf, rulesOf, ruleStart, firstOf, secondOf, kindOf, numberOf, settingOf, ruleAllows, FieldAt, RuleAt}
+use Rattle.accepted.specs.Kinds.{allows}
+use Rattle.accepted.specs.Facts.{Facts, facts}
 use Rattle.masks.specs.Loops.{mask-false, mask-cong, mask-self}
 use Rattle.network.specs.Built.{rowOf, columnOf}
 

@@ -16,8 +16,8 @@ use Rattle.masks.specs.Masks.{maskOf, bit-maskOf}
 use Rattle.masks.specs.Loops.{mask-cong, mask-self}
 use Rattle.masks.specs.Sets.{getD-zeros}
 use Rattle.sheet.specs.Pick.{pick, pick-true}
-use Rattle.sheet.specs.Parts.{countOf, firstOf, secondOf, kindOf, numberOf, valueOf, ruleAllows}
-use Rattle.sheet.specs.Facts.{facts}
+use Rattle.accepted.specs.Parts.{countOf, firstOf, secondOf, kindOf, numberOf, valueOf, ruleAllows}
+use Rattle.accepted.specs.Facts.{facts}
 use Rattle.network.specs.Slots.{slot, slot-bound}
 use Rattle.network.specs.Tables.{tableWords, bothTables, forwardOf, turnedOf, tables-room}
 use Rattle.network.specs.Stored.{Stored, wordsOf, wordsOf-at, stored-forward, stored-turned, stored-then, stored-before, stored-cong, table-lengths}

@@ -7,7 +7,7 @@ use lib.Dec.{eqb, ltb}
 use borrow.Author.Tests.{eqb-true}
 use Rattle.masks.specs.Tests.{someBelow, and-l, and-r}
 use Rattle.consistency.specs.Problem.{Problem, Symmetric}
-use Rattle.sheet.specs.Parts.{fieldsOf, countOf, rulesOf, firstOf, secondOf, ruleAllows}
+use Rattle.accepted.specs.Parts.{fieldsOf, countOf, rulesOf, firstOf, secondOf, ruleAllows}
 
 -- rule r runs from f to g: f is its first field and g its second
 unfoldable pub runs : List ℕ → ℕ → ℕ → ℕ → Bool

@@ -6,7 +6,7 @@ ghost use Rattle.network.specs.Tables.{bothTables, forwardOf, turnedOf};
 ghost use Rattle.network.specs.Network.{NetworkOf};
 use super::fill::fill;
 use super::hoods::neighbourhoods;
-use sheet::parts;
+use accepted::parts;
 
 // Beside the two tables: the number of fields, for each field the fields that a rule joins to it, and its neighbourhood.
 pub struct Network {

@@ -3,7 +3,7 @@ ghost use mathlib.Core.Path.{_≡_};
 ghost use Prim.Native.Nat.{_<_, _≤_};
 ghost use lib.ListN.{length};
 ghost use Rattle.sheet.specs.Judge.{Accepted};
-ghost use Rattle.sheet.specs.Parts.{countOf, rulesOf, firstOf, secondOf, RuleAt};
+ghost use Rattle.accepted.specs.Parts.{countOf, rulesOf, firstOf, secondOf, RuleAt};
 ghost use Rattle.network.specs.Tables.{bothTables, forwardOf, turnedOf};
 ghost use Rattle.network.specs.Built.{rowOf, Holds};
 ghost use Rattle.network.specs.RuleFields.{RuleFields};
@@ -11,9 +11,9 @@ ghost use Rattle.network.specs.RuleRows.{RowsTo, RuleStored};
 use super::rows::slot;
 use super::rows::store;
 use super::turn::turn;
+use accepted::kinds::allowed;
+use accepted::parts;
 use masks::one_bit;
-use sheet::kinds::allowed;
-use sheet::parts;
 
 // The words of one table: the turned one starts after the forward one.
 const TABLE_WORDS: usize = 6624;

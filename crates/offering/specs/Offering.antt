@@ -8,7 +8,7 @@ use lib.ListN.{length, take, drop, length-drop}
 use lib.Seq.{take-all}
 use Rattle.masks.specs.Sets.{has}
 use Rattle.sheet.specs.Judge.{Accepted}
-use Rattle.sheet.specs.Parts.{fieldsOf, reachOf}
+use Rattle.accepted.specs.Parts.{fieldsOf, reachOf}
 use Rattle.network.specs.Tables.{problemOf, tableWords, bothTables, forwardOf, turnedOf}
 use Rattle.network.specs.SheetProblem.{sheetProblem}
 use Rattle.network.specs.Network.{NetworkOf}

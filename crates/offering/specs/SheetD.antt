@@ -16,8 +16,8 @@ use Rattle.consistency.specs.Closing.{partner, supportedBy, supported, closing}
 use Rattle.consistency.specs.Neighbourhood.{widen, fieldsWithin, neighbourhood}
 use Rattle.consistency.specs.Offers.{noneEmpty, passesOver, passes, offers, wipedOut}
 use Rattle.sheet.specs.Pick.{pick}
-use Rattle.sheet.specs.Parts.{fieldStart, ruleStart, reachOf}
-use Rattle.sheet.specs.Cases.{numbersOfD, sheet-D}
+use Rattle.accepted.specs.Parts.{fieldStart, ruleStart, reachOf}
+use Rattle.accepted.specs.Cases.{numbersOfD, sheet-D}
 use Rattle.network.specs.SheetProblem.{runs, pairs, sheetProblem}
 use Rattle.engines.specs.Engine.{IsOrder, Offered}
 use Rattle.offering.specs.Offering.{OfferAsks}

@@ -1,17 +1,17 @@
 // The offers of a set on a sheet, by the engine that is asked for.
 ghost use Prim.Native.Nat.{_≤_};
 ghost use lib.ListN.{length, take};
-ghost use Rattle.sheet.specs.Parts.{reachOf};
+ghost use Rattle.accepted.specs.Parts.{reachOf};
 ghost use Rattle.network.specs.Tables.{problemOf};
 ghost use Rattle.network.specs.SheetProblem.{sheetProblem};
 ghost use Rattle.engines.specs.Engine.{Engine, Offered};
 ghost use Rattle.engines.specs.EngineAsks.{StartAsks, Lent};
 ghost use Rattle.engines.specs.Store.{memoryWords};
 ghost use Rattle.offering.specs.Offering.{OfferAsks};
+use accepted::parts;
 use engines::queue::queued;
 use engines::sac::sac;
 use network::build::build;
-use sheet::parts;
 
 // The engines by 01's numbers. Any other is taken for the first; the calls refuse it before.
 const SAC_2: u32 = 2;

@@ -15,8 +15,8 @@ use Rattle.masks.specs.Bits.{bit, bit-of-zero, bit-bound, lt-of-bits}
 use Rattle.masks.specs.Sets.{has}
 use Rattle.sheet.specs.Pick.{pick, pick-true, pick-false}
 use Rattle.sheet.specs.Judge.{Accepted}
-use Rattle.sheet.specs.Parts.{fieldsOf, countOf}
-use Rattle.sheet.specs.Facts.{facts}
+use Rattle.accepted.specs.Parts.{fieldsOf, countOf}
+use Rattle.accepted.specs.Facts.{facts}
 use Rattle.ledger.specs.Ledger.{Decision, choice, strike, Event, added, withdrawn, unknown, same, inForce, with, without, onSheet, allOnSheet, reversible, illFormed, mostEvents}
 use Rattle.ledger.specs.Laws.{inForce-with, inForce-without, allOn-at, allOn-by, Alike, alike-reversible}
 use Rattle.session.specs.declared.Event.{Event as EventWords}

@@ -18,7 +18,7 @@ use Rattle.masks.specs.Masks.{maskOf, bit-maskOf, maskOf-all, maskOf-in, maskOf
 use Rattle.masks.specs.Loops.{mask-cong}
 use Rattle.masks.specs.Words.{one-shl, bit-and, bit-and-not, clear, bit-clear, clear-other, Lowest}
 use Rattle.masks.specs.Sets.{has, getD-zeros, pad, length-pad, getD-pad}
-use Rattle.sheet.specs.Parts.{fieldsOf, countOf}
+use Rattle.accepted.specs.Parts.{fieldsOf, countOf}
 use Rattle.ledger.specs.Ledger.{Decision, choice, strike, inForce, starts, startSet}
 use Rattle.ledger.specs.Lists.{tabulate, length-tabulate, getD-tabulate}
 use Rattle.session.specs.declared.decisions.Decisions.{Decisions}

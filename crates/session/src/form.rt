@@ -11,7 +11,7 @@ use super::Session;
 use super::decisions::Decisions;
 use super::decisions::reverse;
 use super::decisions::reversible;
-use sheet::parts;
+use accepted::parts;
 
 // The most events that a session holds.
 pub const MOST_EVENTS: u32 = 64;

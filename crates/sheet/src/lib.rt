@@ -1,10 +1,8 @@
-// The sheet of a set-up page: its bytes, its numbers, what is refused, and what its rules allow.
+// The sheet of a set-up page: its bytes, its numbers, and what is refused.
 pub mod answer;
 pub mod grammar;
 pub mod groups;
-pub mod kinds;
 pub mod limits;
-pub mod parts;
 pub mod reader;
 pub mod reading;
 pub mod writing;

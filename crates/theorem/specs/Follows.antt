@@ -6,7 +6,7 @@ use mathlib.Core.List.{List, [], _∷_}
 use Prim.Native.Nat.{ℕ}
 use lib.ListN.{length, take, drop}
 use Rattle.sheet.specs.Judge.{numbers, ofBytes}
-use Rattle.sheet.specs.Parts.{fieldsOf}
+use Rattle.accepted.specs.Parts.{fieldsOf}
 use Rattle.ledger.specs.Ledger.{Decision, Event, Ledger, Given, inForce, offersOf, number, after}
 use Rattle.session.specs.declared.Session.{Session}
 use Rattle.session.specs.Decisions.{heldIn}

@@ -12,8 +12,8 @@ use borrow.Author.Tests.{eqb-true, eqb-false, eq-eqb}
 use Rattle.masks.specs.Tests.{never, eq-cases}
 use Rattle.sheet.specs.Pick.{pick, pick-true, pick-false}
 use Rattle.sheet.specs.Judge.{refusal, numbers, ofBytes}
-use Rattle.sheet.specs.Accept.{bytes-accepted}
-use Rattle.sheet.specs.Parts.{fieldsOf}
+use Rattle.accepted.specs.Accept.{bytes-accepted}
+use Rattle.accepted.specs.Parts.{fieldsOf}
 use Rattle.ledger.specs.declared.Call.{Call}
 use Rattle.ledger.specs.declared.Call.the-variants.{Open, Show, Choose, Strike, WithdrawChoice, WithdrawStrike, Back, CoilOn}
 use Rattle.ledger.specs.Ledger.{Decision, Ledger, Given, inForce, step, offersOf, tooShort, first, judged, causes, number, after}

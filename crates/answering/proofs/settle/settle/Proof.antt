@@ -2,7 +2,7 @@ use mathlib.Core.Path.{_≡_, sym, ap, _∙_}
 use native.Mathlib.Omega.{arith}
 use lib.ListN.{length, take}
 use lib.Seq.{length-take-le}
-use Rattle.sheet.specs.Facts.{facts}
+use Rattle.accepted.specs.Facts.{facts}
 use Rattle.session.specs.View.{decisionsOf, decisionsIn}
 use Rattle.answering.specs.Settle.{offer-asks, offers-sized, found-wiped, found-offers, settled-wiped, settled-offers}
 use borrow.Author.Needs.{needs}

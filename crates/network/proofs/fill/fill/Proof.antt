@@ -1,7 +1,7 @@
 use mathlib.Core.Path.{_≡_}
 use Prim.Native.Nat.{_-_}
 use borrow.Author.Needs.{needs}
-use Rattle.sheet.specs.Parts.{rulesOf}
+use Rattle.accepted.specs.Parts.{rulesOf}
 use Rattle.network.specs.Filling.{Filled, filled-start, rule-at, joined-room, filled-next}
 use Rattle.network.proofs.fill.fill.Statement.{statement}
 use Rattle.network.proofs.fill.fill.Tie as tie

@@ -4,7 +4,7 @@ use native.Mathlib.Omega.{arith}
 use borrow.Author.Needs.{needs}
 use Rattle.masks.specs.Masks.{maskOf}
 use Rattle.masks.specs.Loops.{mask-none, mask-more, mask-skip}
-use Rattle.sheet.specs.Parts.{ruleAllows}
+use Rattle.accepted.specs.Parts.{ruleAllows}
 use Rattle.network.specs.RuleFields.{field-i, field-j, counts-few, row-is, allows-is}
 use Rattle.network.specs.RuleRows.{row-mask}
 use Rattle.network.proofs.fill.row_of_rule.Statement.{statement}

@@ -2,8 +2,8 @@ use mathlib.Core.Path.{_≡_, sym, ap, _∙_}
 use Prim.Native.Nat.{ℕ, _-_, _≤_, _<_}
 use native.Mathlib.Omega.{arith}
 use borrow.Author.Needs.{needs}
-use Rattle.sheet.specs.Parts.{fieldsOf}
-use Rattle.sheet.specs.Facts.{facts}
+use Rattle.accepted.specs.Parts.{fieldsOf}
+use Rattle.accepted.specs.Facts.{facts}
 use Rattle.session.specs.Start.{Starting, starting-first, starting-next, starting-last}
 use Rattle.session.proofs.start.start.Statement.{statement}
 use Rattle.session.proofs.start.start.Tie as tie

@@ -1,0 +1,21 @@
+-- What pairs a rule allows, by its kind. Assumes nothing.
+use mathlib.Core.Bool.{Bool, false}
+use Prim.Native.Nat.{ℕ, _+_, _-_}
+use lib.Dec.{leb, eqb}
+use Rattle.masks.specs.Bits.{bit}
+use Rattle.sheet.specs.Pick.{pick}
+
+-- how far p and q are apart: one of the two differences is 0
+abbrev pub distance : ℕ → ℕ → ℕ
+distance p q = p - q + (q - p)
+
+-- With p the setting of i and q, at position b, that of j; c is the rule's number, and for kind 0 the mask of p's position.
+abbrev pub allows : (kind c p q b : ℕ) → Bool
+allows kind c p q b =
+    pick (eqb kind 0) (bit c b)
+    (pick (eqb kind 1) (leb (q + c) p)
+    (pick (eqb kind 2) (leb (p + c) q)
+    (pick (eqb kind 3) (leb c (distance p q))
+    (pick (eqb kind 4) (leb (distance p q) c)
+    (pick (eqb kind 5) (eqb (distance p q) c)
+    false)))))

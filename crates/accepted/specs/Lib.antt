@@ -1,0 +1,19 @@
+-- What the contracts of `accepted` cite, and what holds of every accepted sheet.
+pub mod Kinds
+pub mod Sheets
+pub mod Parts
+-- accepted lists and right sheets
+pub mod Accept
+pub mod AcceptedFields
+pub mod AcceptedRules
+pub mod AcceptedSheet
+pub mod RightSheet
+pub mod Sizes
+pub mod Round
+-- what holds of them
+pub mod Places
+pub mod Facts
+pub mod Order
+pub mod Theorems
+pub mod Refused
+pub mod Cases

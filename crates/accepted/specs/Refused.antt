@@ -1,0 +1,31 @@
+-- The refusals of a source are 1 to 5. Assumes nothing.
+use mathlib.Core.List.{List, [], _∷_}
+use Prim.Native.Nat.{ℕ, _≤_}
+use native.Mathlib.Omega.{arith}
+use Rattle.sheet.specs.Grammar.{step, start, noCounts, atEnd}
+use Rattle.sheet.specs.Judge.{Item, num, cut, ill, meets, judge, refusal}
+use Rattle.sheet.specs.declared.grammar.Expected.{Expected}
+use Rattle.sheet.specs.declared.grammar.State.{State}
+use Rattle.sheet.specs.declared.grammar.State.the-variants.{Wants, Complete, OutOfRange, OutOfOrder}
+
+meets-few : (st : State) (f : ℕ → Expected → ℕ) → ((n : ℕ) (e : Expected) → f n e ≤ 5) → meets st f ≤ 5
+meets-few (Wants n e) f h = h n e
+meets-few Complete f h = omega arith
+meets-few OutOfRange f h = omega arith
+meets-few OutOfOrder f h = omega arith
+
+end-few : (st : State) → atEnd st ≤ 5
+end-few (Wants n e) = omega arith
+end-few Complete = omega arith
+end-few OutOfRange = omega arith
+end-few OutOfOrder = omega arith
+
+judge-few : (st : State) (ds : List ℕ) (is : List Item) → judge st ds is ≤ 5
+unfolding judge
+judge-few st ds [] = end-few st
+judge-few st ds (num x ∷ is) = meets-few st _ (λ n e. judge-few (step n e ds x .0) (step n e ds x .1) is)
+judge-few st ds (cut ∷ is) = meets-few st _ (λ n e. omega arith)
+judge-few st ds (ill ∷ is) = meets-few st _ (λ n e. omega arith)
+
+pub refusal-few : (is : List Item) → refusal is ≤ 5
+refusal-few is = judge-few start noCounts is

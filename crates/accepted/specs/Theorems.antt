@@ -1,0 +1,82 @@
+-- What holds of every accepted sheet. Assumes nothing.
+use mathlib.Core.Path.{_≡_, refl, sym, ap, ap₂, _∙_}
+use mathlib.Core.Bool.{Bool, true, false}
+use mathlib.Core.List.{List, [], _∷_}
+use Prim.Native.Nat.{ℕ, _<_, _≤_}
+use native.Mathlib.Omega.{arith}
+use lib.Dec.{eqb}
+use lib.ListN.{length, getD}
+use borrow.Author.Tests.{le-leb, eq-eqb, eqb-true}
+use Rattle.sheet.specs.Pick.{pick, pick-true, pick-false}
+use Rattle.sheet.specs.Limits.{mostBytes, mostNumbers}
+use Rattle.sheet.specs.Judge.{refusal, numbers, ofBytes, ofNumbers, bytesOf, Accepted, AcceptedBytes, outcome, refusing, giving, reading, writing}
+use Rattle.accepted.specs.Round.{numbers-bytes, bytes-numbers}
+use Rattle.accepted.specs.Accept.{accepted-numbers, bytes-accepted}
+use Rattle.accepted.specs.Sheets.{IsSheet}
+use Rattle.accepted.specs.AcceptedSheet.{sheet-in}
+use Rattle.accepted.specs.RightSheet.{right-accepted}
+use Rattle.accepted.specs.Sizes.{sized-in}
+
+-- Just the numbers of right sheets are accepted.
+pub accepted-right : (xs : List ℕ) → Accepted xs → IsSheet xs
+accepted-right xs e = sheet-in xs e
+
+pub right-is-accepted : (xs : List ℕ) → IsSheet xs → Accepted xs
+right-is-accepted xs t = rw (t .split) (right-accepted (t .sheet) (t .right))
+
+-- An accepted sheet has at most 8,055 numbers and 29,080 bytes.
+pub most-numbers : (xs : List ℕ) → Accepted xs → length xs ≤ mostNumbers
+most-numbers xs e = sized-in xs e .count
+
+pub most-bytes : (xs : List ℕ) → Accepted xs → length (bytesOf xs) ≤ mostBytes
+most-bytes xs e = sized-in xs e .bytes
+
+numbers-of : (xs : List ℕ) → numbers (ofNumbers xs) ≡ xs
+unfolding numbers
+numbers-of [] = refl
+numbers-of (x ∷ xs) = ap (λ (l : List ℕ). x ∷ l) (numbers-of xs)
+
+-- Accepted numbers in bytes are read as those numbers.
+same-numbers : (xs : List ℕ) → Accepted xs → ofBytes (bytesOf xs) ≡ ofNumbers xs
+same-numbers xs e = numbers-bytes xs (sized-in xs e .below)
+
+-- Accepted bytes are the bytes of their numbers.
+same-bytes : (s : List ℕ) → ((k : ℕ) → getD s k 0 < 256) → AcceptedBytes s → bytesOf (numbers (ofBytes s)) ≡ s
+same-bytes s h e = sym (bytes-numbers (numbers (ofBytes s)) s h (accepted-numbers (ofBytes s) e))
+
+-- a source that is accepted, over an output with room for its values
+given : (number : ℕ) (values before : List ℕ) → number ≡ 0 → length values ≤ length before → outcome number values before ≡ giving values before
+given number values before z h = pick-true _ _ _ (eq-eqb number 0 z) ∙ pick-true _ _ _ (le-leb (length values) (length before) h)
+
+-- Written, then read: the same numbers, for every accepted list.
+pub written-read : (xs before : List ℕ) → Accepted xs → length xs ≤ length before → reading (bytesOf xs) before ≡ giving xs before
+written-read xs before e h =
+    ap₂ (λ (number : ℕ) (values : List ℕ). outcome number values before) (ap refusal (same-numbers xs e)) (ap numbers (same-numbers xs e) ∙ numbers-of xs)
+    ∙ given _ xs before e h
+
+-- Read, then written: the same bytes, for every accepted sheet.
+pub read-written : (s before : List ℕ) → ((k : ℕ) → getD s k 0 < 256) → AcceptedBytes s → length s ≤ length before
+    → writing (numbers (ofBytes s)) before ≡ giving s before
+read-written s before h e l =
+    ap (λ (values : List ℕ). outcome (refusal (ofNumbers (numbers (ofBytes s)))) values before) (same-bytes s h e)
+    ∙ given _ s before (bytes-accepted s e) l
+
+-- An accepted sheet has at most 29,080 bytes and 8,055 numbers, whichever of the two it is given as.
+pub most-sheet-bytes : (s : List ℕ) → ((k : ℕ) → getD s k 0 < 256) → AcceptedBytes s → length s ≤ mostBytes
+most-sheet-bytes s h e = rw (← same-bytes s h e) (most-bytes _ (bytes-accepted s e))
+
+pub most-sheet-numbers : (s : List ℕ) → AcceptedBytes s → length (numbers (ofBytes s)) ≤ mostNumbers
+most-sheet-numbers s e = most-numbers (numbers (ofBytes s)) (bytes-accepted s e)
+
+-- Over an output of 8,055 words or more, reading is never refused by 6.
+pub enough-room : (s before : List ℕ) → mostNumbers ≤ length before
+    → reading s before ≡ pick (eqb (refusal (ofBytes s)) 0) (giving (numbers (ofBytes s)) before) (refusing (refusal (ofBytes s)) before)
+enough-room s before h = go (eqb (refusal (ofBytes s)) 0) refl
+  where
+    go : (t : Bool) → eqb (refusal (ofBytes s)) 0 ≡ t
+        → reading s before ≡ pick (eqb (refusal (ofBytes s)) 0) (giving (numbers (ofBytes s)) before) (refusing (refusal (ofBytes s)) before)
+    go true e =
+        let z : refusal (ofBytes s) ≡ 0 = eqb-true (refusal (ofBytes s)) 0 e in
+        let l : length (numbers (ofBytes s)) ≤ length before = omega (arith, most-sheet-numbers s z) in
+        given (refusal (ofBytes s)) (numbers (ofBytes s)) before z l ∙ sym (pick-true _ _ _ e)
+    go false e = pick-false _ _ _ e ∙ sym (pick-false _ _ _ e)

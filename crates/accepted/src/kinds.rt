@@ -1,0 +1,40 @@
+// What pairs of settings a rule allows, by its kind.
+ghost use mathlib.Core.Path.{_≡_};
+ghost use Rattle.masks.specs.Bits.{bit};
+ghost use Rattle.accepted.specs.Kinds.{distance, allows};
+use masks::has_bit;
+
+// Position v is in the mask x.
+fn has(x: u32, v: u32) -> bool
+    ensures { λ r. ⌜ r ≡ bit x v ⌝ }
+{
+    if v < 32 {
+        has_bit(x, v as usize)
+    } else {
+        false
+    }
+}
+
+fn distance(p: u64, q: u64) -> u64
+    ensures { λ r. ⌜ r ≡ distance p q ⌝ }
+{
+    if q <= p { p - q } else { q - p }
+}
+
+// Whether a rule of a kind allows a pair: p is the setting of i, and q that of j, at position b; c is the rule's number, or, for kind 0, its mask of p's position.
+pub fn allowed(kind: u32, c: u32, p: u32, q: u32, b: u32) -> bool
+    ensures { λ r. ⌜ r ≡ allows kind c p q b ⌝ }
+{
+    let x = p as u64;
+    let y = q as u64;
+    let z = c as u64;
+    match kind {
+        0 => has(c, b),
+        1 => y + z <= x,
+        2 => x + z <= y,
+        3 => z <= distance(x, y),
+        4 => distance(x, y) <= z,
+        5 => distance(x, y) == z,
+        _ => false,
+    }
+}
