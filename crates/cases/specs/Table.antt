@@ -5,7 +5,7 @@ use mathlib.Core.List.{List, [], _∷_}
 use Prim.Native.Nat.{ℕ}
 use Rattle.masks.specs.Tests.{allBelow, someBelow}
 use Rattle.masks.specs.Bits.{bit}
-use Rattle.masks.specs.Masks.{maskOf, digit, keepIn, keepBits, someIn, someBit, countIn, countBits}
+use Rattle.masks.specs.Masks.{maskOf, keepIn, keepBits, someIn, someBit, countIn, countBits}
 use Rattle.masks.specs.Sets.{only, count, same}
 use Rattle.masks.specs.Settings.{cut, empty, someEmpty}
 use Rattle.consistency.specs.Largest.{sweep, sweeps, largest}
@@ -30,6 +30,8 @@ use Rattle.cases.specs.Calls.{given, answers, afterAll, single, three, t
 pub data Case : Type 0 where
   -- a problem, a reach, a set; its closing over every field, its offers, and whether it is wiped out
   consistency : Problem → ℕ → List ℕ → List ℕ → List ℕ → Bool → Case
+  -- the bytes of a sheet, a set, and its closing over every field
+  closes : List ℕ → List ℕ → List ℕ → Case
   -- the bytes of a sheet, calls one after the other, and their numbers
   calls : List ℕ → List Call → List ℕ → Case
   -- and, where the last is accepted, the masks of the offers after it
@@ -42,9 +44,12 @@ agree false b = not b
 
 -- It opens all that it computes with, so a theorem says `unfolding allHold` and no more.
 unfoldable pub holds : Case → Bool
-unfolding agree wipedOut offers passes passesOver noneEmpty neighbourhood fieldsWithin widen allFields closing supported supportedBy partner largest sweeps sweep someEmpty empty cut same count only countBits countIn someBit someIn keepBits keepIn maskOf digit bit someBelow allBelow answers afterAll tabulate occurrences number after first causes judged malformed illFormed unknownArgument isOrder tooShort reversible allOnSheet onSheet inForce sameDecision without reversed step starts startSet offersOf wiped judge numbers items numberAt groups pick sheetStep fieldStart ruleStart sheetProblem runs pairs
+unfolding agree wipedOut offers passes passesOver noneEmpty neighbourhood fieldsWithin widen allFields closing supported supportedBy partner largest sweeps sweep someEmpty empty cut same count only countBits countIn someBit someIn keepBits keepIn maskOf bit someBelow allBelow answers afterAll tabulate occurrences number after first causes judged malformed illFormed unknownArgument isOrder tooShort reversible allOnSheet onSheet inForce sameDecision without reversed step starts startSet offersOf wiped judge numbers items numberAt groups pick sheetStep fieldStart ruleStart sheetProblem runs pairs
 holds (consistency P k S closed offered wiped) =
     same (closing P (allFields P) S) closed && same (offers P k S) offered && agree (wipedOut P k S) wiped
+holds (closes sheet S closed) =
+    let P = sheetProblem (numbers (ofBytes sheet)) in
+    same (closing P (allFields P) S) closed
 holds (calls sheet cs ks) = same (answers (given sheet) noLedger cs) ks
 holds (shown sheet cs ks masks) =
     same (answers (given sheet) noLedger cs) ks && same (offersOf (numbers (ofBytes sheet)) (afterAll (given sheet) noLedger cs .decisions)) masks
@@ -74,6 +79,8 @@ table =
     -- one field, one setting
     ∷ shown single (Open ∷ []) (0 ∷ []) (1 ∷ [])
     -- the problems above, as sheets
+    ∷ closes (three 1) (3 ∷ 3 ∷ 3 ∷ []) (3 ∷ 3 ∷ 3 ∷ [])
+    ∷ closes (five 1) (3 ∷ 3 ∷ 3 ∷ 3 ∷ 3 ∷ []) (3 ∷ 3 ∷ 3 ∷ 3 ∷ 3 ∷ [])
     ∷ calls (three 1) (Open ∷ []) (14 ∷ [])
     ∷ calls (three 24) (Open ∷ []) (14 ∷ [])
     ∷ shown (five 1) (Open ∷ []) (0 ∷ []) (3 ∷ 3 ∷ 3 ∷ 3 ∷ 3 ∷ [])

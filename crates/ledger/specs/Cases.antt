@@ -7,7 +7,7 @@ use Prim.Native.Nat.{ℕ, zero, suc}
 use lib.Dec.{eqb}
 use Rattle.masks.specs.Tests.{allBelow, someBelow}
 use Rattle.masks.specs.Bits.{bit}
-use Rattle.masks.specs.Masks.{maskOf, digit, keepIn, keepBits, someIn, someBit, countIn, countBits}
+use Rattle.masks.specs.Masks.{maskOf, keepIn, keepBits, someIn, someBit, countIn, countBits}
 use Rattle.masks.specs.Sets.{only, count, same}
 use Rattle.masks.specs.Settings.{cut, empty, someEmpty}
 use Rattle.consistency.specs.Largest.{sweep, sweeps, largest}

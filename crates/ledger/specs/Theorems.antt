@@ -1,14 +1,14 @@
 -- What holds of the ledger, beside demand 3. Assumes nothing.
-use mathlib.Core.Path.{_≡_, refl, sym, ap, _∙_}
+use mathlib.Core.Path.{_≡_, refl, sym, ap, ap₂, _∙_}
 use mathlib.Core.Logic.{⊎-elim}
-use mathlib.Core.Bool.{Bool, true, false, not, _&&_, and-false}
+use mathlib.Core.Bool.{Bool, true, false, not, _&&_, _||_, and-false}
 use mathlib.Core.List.{List, [], _∷_}
 use Prim.Native.Nat.{ℕ, _<_}
 use native.Mathlib.Omega.{arith}
 use lib.Dec.{eqb, ltb}
 use lib.ListN.{getD}
-use borrow.Author.Tests.{eqb-true, eq-eqb}
-use Rattle.masks.specs.Tests.{never, not-so, bool-cases, iff-eq, and-l, and-r, and-by, allBelow, allBelow-at, allBelow-by, _⇒_, ⇒-at, ⇒-by}
+use borrow.Author.Tests.{eqb-true, eq-eqb, lt-ltb}
+use Rattle.masks.specs.Tests.{never, not-so, bool-cases, iff-eq, and-l, and-r, and-by, or-l, or-r, or-at, someBelow, someBelow-at, someBelow-by, allBelow, allBelow-at, allBelow-by, _⇒_, ⇒-at, ⇒-by}
 use Rattle.masks.specs.Bits.{bit}
 use Rattle.masks.specs.Masks.{maskOf, maskOf-in}
 use Rattle.masks.specs.Sets.{has}
@@ -16,8 +16,8 @@ use Rattle.consistency.specs.SetUps as setUps
 use Rattle.consistency.specs.Problem.{SetUp}
 use Rattle.sheet.specs.Pick.{pick, pick-true, pick-false}
 use Rattle.sheet.specs.Judge.{refusal, numbers, ofBytes}
-use Rattle.accepted.specs.Parts.{fieldsOf, countOf, reachOf}
-use Rattle.network.specs.SheetProblem.{sheetProblem}
+use Rattle.accepted.specs.Parts.{fieldsOf, countOf, reachOf, rulesOf, firstOf, secondOf, ruleAllows}
+use Rattle.network.specs.SheetProblem.{runs, runs-at, pairs, joins, allowsPair, sheetProblem}
 use Rattle.ledger.specs.declared.Call.{Call}
 use Rattle.ledger.specs.declared.Call.the-variants.{Open, Show, Choose, Strike, WithdrawChoice, WithdrawStrike, Back, CoilOn}
 use Rattle.ledger.specs.Lists.{tabulate, getD-tabulate}
@@ -54,7 +54,7 @@ module _ (xs : List ℕ) (ds : List Decision) (f : ℕ) where
 -- a setting for each field, each rule allowing its pair, none struck, and none other than a chosen one
 pub record Obeys (xs : List ℕ) (ds : List Decision) (a : ℕ → ℕ) : Type 0 where
   pub on : (f : ℕ) → f < fieldsOf xs → a f < countOf xs f
-  pub allowed : (f g : ℕ) → f < fieldsOf xs → g < fieldsOf xs → sheetProblem xs .joined f g ≡ true → sheetProblem xs .allowed f g (a f) (a g) ≡ true
+  pub allowed : (r : ℕ) → r < rulesOf xs → ruleAllows xs r (a (firstOf xs r)) (a (secondOf xs r)) ≡ true
   pub unstruck : (f : ℕ) → f < fieldsOf xs → inForce ds (strike f (a f)) ≡ false
   pub chosen : (f u : ℕ) → f < fieldsOf xs → inForce ds (choice f u) ≡ true → u ≡ a f
 
@@ -67,8 +67,20 @@ module _ (xs : List ℕ) (ds : List Decision) (a : ℕ → ℕ) (o : Obeys xs ds
   unfolding has startSet
   inside f h = ap (λ (m : ℕ). bit m (a f)) (getD-tabulate (fieldsOf xs) (λ f. maskOf (countOf xs f) (starts xs ds f)) f h) ∙ maskOf-in (countOf xs f) (starts xs ds f) (a f) (o .on f h) ∙ starts-so f h
 
+  -- where a rule joins two fields, it allows their settings
+  both : (f g r : ℕ) → f < fieldsOf xs → g < fieldsOf xs → r < rulesOf xs → runs xs f g r ≡ true → pairs xs f g (a f) (a g) r ≡ true
+  unfolding pairs
+  both f g r h k l q = let e = runs-at xs f g r q in
+      and-by _ _ (lt-ltb (a f) (countOf xs f) (o .on f h)) (and-by _ _ (lt-ltb (a g) (countOf xs g) (o .on g k)) (ap₂ (λ (x y : ℕ). ruleAllows xs r (a x) (a y)) (sym (e .0)) (sym (e .1)) ∙ o .allowed r l))
+
+  agrees : (f g : ℕ) → f < fieldsOf xs → g < fieldsOf xs → someBelow (rulesOf xs) (joins xs f g) ≡ true → someBelow (rulesOf xs) (allowsPair xs f g (a f) (a g)) ≡ true
+  agrees f g h k e = let x = someBelow-at (rulesOf xs) (joins xs f g) e in someBelow-by (rulesOf xs) (allowsPair xs f g (a f) (a g)) (x .0) (x .1) (⊎-elim
+      (λ q. or-l _ _ (and-by _ _ q (both f g (x .0) h k (x .1) q)))
+      (λ q. or-r (runs xs f g (x .0) && pairs xs f g (a f) (a g) (x .0)) _ (and-by _ _ q (both g f (x .0) k h (x .1) q)))
+      (or-at (runs xs f g (x .0)) (runs xs g f (x .0)) (x .2)))
+
   set-up : SetUp (sheetProblem xs) (startSet xs ds) a
-  set-up = record { inside = λ f h. inside f (field f h); agrees = λ f g h k. o .allowed f g (field f h) (field g k) }
+  set-up = record { inside = λ f h. inside f (field f h); agrees = λ f g h k. unfold sheetProblem in agrees f g (field f h) (field g k) }
     where
       field : (f : ℕ) → f < sheetProblem xs .fields → f < fieldsOf xs
       field f h = unfold sheetProblem in h

@@ -14,6 +14,7 @@ use Rattle.masks.specs.Tests.{eq-cases}
 use Rattle.masks.specs.Bits.{bit}
 use Rattle.masks.specs.Words.{bit-or, bit-one, clear, bit-clear}
 use Rattle.masks.specs.Sets.{has}
+use Rattle.masks.specs.Settings.{lose, length-lose, lose-set}
 use Rattle.sheet.specs.Pick.{pick}
 use Rattle.ledger.specs.Ledger.{Decision, choice, strike, same}
 use Rattle.session.specs.declared.decisions.Decisions.{Decisions}
@@ -32,17 +33,13 @@ heldIn d (strike f v) = has (d .strikes) f v
 abbrev pub gain : List ℕ → ℕ → ℕ → List ℕ
 gain S f v = set S f (bitOr (getD S f 0) (2 ^ v))
 
--- and one less
-abbrev pub drop : List ℕ → ℕ → ℕ → List ℕ
-drop S f v = set S f (clear (getD S f 0) v)
-
 abbrev pub gained : Decisions → Bool → ℕ → ℕ → Decisions
 gained d true f v = record { choices = d .choices; strikes = gain (d .strikes) f v }
 gained d false f v = record { choices = gain (d .choices) f v; strikes = d .strikes }
 
 abbrev pub lost : Decisions → Bool → ℕ → ℕ → Decisions
-lost d true f v = record { choices = d .choices; strikes = drop (d .strikes) f v }
-lost d false f v = record { choices = drop (d .choices) f v; strikes = d .strikes }
+lost d true f v = record { choices = d .choices; strikes = lose (d .strikes) f v }
+lost d false f v = record { choices = lose (d .choices) f v; strikes = d .strikes }
 
 -- the masks are 24
 pub record Long (d : Decisions) : Type 0 where
@@ -54,8 +51,8 @@ gained-long d true f v l = record { choices = l .choices; strikes = length-set (
 gained-long d false f v l = record { choices = length-set (d .choices) f _ ∙ l .choices; strikes = l .strikes }
 
 pub lost-long : (d : Decisions) (s : Bool) (f v : ℕ) → Long d → Long (lost d s f v)
-lost-long d true f v l = record { choices = l .choices; strikes = length-set (d .strikes) f _ ∙ l .strikes }
-lost-long d false f v l = record { choices = length-set (d .choices) f _ ∙ l .choices; strikes = l .strikes }
+lost-long d true f v l = record { choices = l .choices; strikes = length-lose (d .strikes) f v ∙ l .strikes }
+lost-long d false f v l = record { choices = length-lose (d .choices) f v ∙ l .choices; strikes = l .strikes }
 
 and-true : (b : Bool) → b ≡ (b && true)
 and-true true = refl
@@ -78,9 +75,9 @@ has-gain S f v g u l = ⊎-elim
     (λ q. ap (λ (m : ℕ). bit m u) (getD-set-other S f g _ 0 (λ z. q (sym z))) ∙ rw (ne-eqb f g q))
     (eq-cases f g)
 
-has-drop : (S : List ℕ) (f v g u : ℕ) → f < length S → has (drop S f v) g u ≡ (has S g u && not (eqb f g && eqb v u))
+has-lose : (S : List ℕ) (f v g u : ℕ) → f < length S → has (lose S f v) g u ≡ (has S g u && not (eqb f g && eqb v u))
 unfolding has
-has-drop S f v g u l = ⊎-elim
+has-lose S f v g u l = ap (λ (R : List ℕ). bit (getD R g 0) u) (lose-set S f v) ∙ ⊎-elim
     (λ (q : f ≡ g). rw (sym q) (ap (λ (m : ℕ). bit m u) (getD-set-same S f _ 0 l) ∙ bit-clear (getD S f 0) v u
     ∙ rw (eq-eqb f f refl) (ap (λ (b : Bool). bit (getD S f 0) u && not b) (eqb-turn u v))))
     (λ q. ap (λ (m : ℕ). bit m u) (getD-set-other S f g _ 0 (λ z. q (sym z))) ∙ rw (ne-eqb f g q) (and-true (bit (getD S g 0) u)))
@@ -98,6 +95,6 @@ held-gained d l false f v h (strike g u) = refl
 pub held-lost : (d : Decisions) → Long d → (s : Bool) (f v : ℕ) → f < 24 → (e : Decision) → heldIn (lost d s f v) e ≡ (heldIn d e && not (same (decisionOf s f v) e))
 unfolding same
 held-lost d l true f v h (choice g u) = and-true (has (d .choices) g u)
-held-lost d l true f v h (strike g u) = has-drop (d .strikes) f v g u (let n = l .strikes in omega arith)
-held-lost d l false f v h (choice g u) = has-drop (d .choices) f v g u (let n = l .choices in omega arith)
+held-lost d l true f v h (strike g u) = has-lose (d .strikes) f v g u (let n = l .strikes in omega arith)
+held-lost d l false f v h (choice g u) = has-lose (d .choices) f v g u (let n = l .choices in omega arith)
 held-lost d l false f v h (strike g u) = and-true (has (d .strikes) g u)

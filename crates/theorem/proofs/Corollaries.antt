@@ -5,19 +5,20 @@ use mathlib.Core.Bool.{Bool, true, false}
 use mathlib.Core.List.{List, [], _∷_}
 use Prim.Native.Nat.{ℕ}
 use lib.Dec.{eqb}
-use lib.ListN.{length}
-use borrow.Author.Tests.{eqb-true}
-use Rattle.sheet.specs.Pick.{pick}
+use lib.ListN.{length, take}
+use borrow.Author.Tests.{eqb-true, eq-eqb}
+use Rattle.sheet.specs.Pick.{pick, pick-true}
 use Rattle.sheet.specs.Judge.{numbers, ofBytes}
 use Rattle.ledger.specs.declared.Call.{Call}
-use Rattle.ledger.specs.Ledger.{Ledger, Given, empty, illFormed, number}
+use Rattle.ledger.specs.Ledger.{Ledger, Given, neither, changeOf, empty, step, offersOf, illFormed, number, after}
+use Rattle.ledger.specs.Laws.{Same, alike-offers}
 use Rattle.ledger.specs.Sound.{empty-formed, after-formed, never-15}
-use Rattle.ledger.specs.Theorems.{Taken, lending, engine-and-order}
+use Rattle.ledger.specs.Theorems.{back-undoes, Taken, lending, engine-and-order}
 use Rattle.session.specs.declared.Session.{Session}
 use Rattle.session.specs.View.{view}
 use Rattle.answering.specs.Answer.{Answer, refused, accepted, answer}
 use Rattle.theorem.specs.Turns.{Turn, Answered}
-use Rattle.theorem.specs.Follows.{Sized, givenTo, next, Agrees, Follows, ends, goes}
+use Rattle.theorem.specs.Follows.{Sized, givenTo, numbersOf, fields, next, Agrees, Follows, ends, goes}
 use Rattle.theorem.proofs.Sequence.{Calls, none-yet, then, demand-3}
 
 -- ---- no call of such a sequence answers 15
@@ -33,8 +34,8 @@ quiet sheet s (t ∷ ts) (then e m cs) l f (goes a rest) =
     goes-so (λ q. never-15 (givenTo t) l (t .call) h (sym (a .numbered) ∙ q))
     (quiet sheet (t .session′) ts cs (next l t) (ap (λ (x : List ℕ). illFormed (numbers (ofBytes x)) (next l t)) (sym e) ∙ after-formed (givenTo t) l (t .call) h) rest)
 
-pub no-15 : (sheet : List ℕ) (s : Session) (t : Turn) (ts : List Turn) → Sized s → t .call ≡ Call.Open → t .number ≡ 0 → Calls sheet s (t ∷ ts) → None15 (t ∷ ts)
-no-15 sheet s t ts z o n cs = quiet sheet s (t ∷ ts) cs empty (empty-formed (numbers (ofBytes sheet))) (demand-3 sheet s t ts z o n cs empty)
+pub no-15 : (sheet : List ℕ) (s : Session) (t : Turn) (ts : List Turn) → Sized s → t .call ≡ Call.Open → Calls sheet s (t ∷ ts) → number (givenTo t) (t .call) empty ≡ 0 → None15 (t ∷ ts)
+no-15 sheet s t ts z o cs k = quiet sheet s (t ∷ ts) cs empty (empty-formed (numbers (ofBytes sheet))) (demand-3 sheet s t ts z o cs empty k)
 
 -- ---- engine, order and what the work spaces hold alter nothing
 
@@ -73,3 +74,17 @@ engine-order-spaces t u a b s p q =
     ap (λ (r : Answer). r .number) (b .answers) ∙ answer-number (givenTo u) (u .call) (u .session) (u .offers) ∙ rw (e, s .call, s .session) in
     let k = engine-and-order (givenTo t) (u .engine) (u .order) (t .call) (view (t .session)) (rw x at p) (rw y at q) in
     a .answers ∙ answer-by (givenTo t) (lending (givenTo t) (u .engine) (u .order)) (t .call) (t .session) (t .offers) k refl ∙ sym (b .answers ∙ rw (e, s .call, s .session, s .offers))
+
+-- ---- back after a change shows the page before it
+
+-- the ledger after an accepted call is its step
+stepped : (l : Ledger) (t : Turn) → Agrees l t → t .number ≡ 0 → next l t ≡ step (t .call) l
+unfolding after
+stepped l t a n = pick-true _ _ _ (eq-eqb _ 0 (sym (a .numbered) ∙ n))
+
+pub back-shows-again : (l : Ledger) (t u : Turn) → Agrees l t → Agrees (next l t) u → (changeOf (t .call) ≡ neither → ⊥) → u .call ≡ Call.Back → t .number ≡ 0 → u .number ≡ 0
+    → Same (next (next l t) u) l × (take (fields u) (u .offers′) ≡ offersOf (numbersOf u) (l .decisions))
+back-shows-again l t u a b c o n m =
+    let e : next (next l t) u ≡ step Call.Back (step (t .call) l) = stepped (next l t) u b m ∙ rw (o, stepped l t a n) in
+    let s : Same (next (next l t) u) l = rw e (back-undoes (givenTo t) (t .call) l (sym (a .numbered) ∙ n) c) in
+    (s, b .shown m ∙ alike-offers _ _ (s .held) (numbersOf u))

@@ -48,10 +48,11 @@ module _ (g : Given) (c : Call) (o : c ≡ Call.Open) (l m : Ledger) where
   open-after e = unfold after in (pick-true _ _ _ (eq-eqb _ 0 e) ∙ rw o (unfold step in refl) ∙ sym (pick-true _ _ _ (eq-eqb _ 0 (sym open-number ∙ e))))
 
 -- the first call: whatever the session and whatever the ledger held
-opened : (t : Turn) → t .call ≡ Call.Open → t .number ≡ 0 → Sized (t .session) → Answered t → (l : Ledger) → Agrees l t × Same (view (t .session′)) (next l t) × Sized (t .session′)
-opened t o n z m l =
+opened : (t : Turn) → t .call ≡ Call.Open → Sized (t .session) → Answered t → (l : Ledger) → number (givenTo t) (t .call) l ≡ 0 → Agrees l t × Same (view (t .session′)) (next l t) × Sized (t .session′)
+opened t o z m l k =
     let w = went (view (t .session)) t z (same-ledger (view (t .session))) m in
     let a = w .0 in
+    let n : t .number ≡ 0 = a .numbered ∙ open-number (givenTo t) (t .call) o (view (t .session)) l ∙ k in
     let e : next (view (t .session)) t ≡ next l t = open-after (givenTo t) (t .call) o (view (t .session)) l (sym (a .numbered) ∙ n) in (
       record {
         numbered = a .numbered ∙ open-number (givenTo t) (t .call) o (view (t .session)) l;
@@ -66,5 +67,5 @@ opened t o n z m l =
     )
 
 -- THE THEOREM
-pub demand-3 : (sheet : List ℕ) (s : Session) (t : Turn) (ts : List Turn) → Sized s → t .call ≡ Call.Open → t .number ≡ 0 → Calls sheet s (t ∷ ts) → (l : Ledger) → Follows l (t ∷ ts)
-demand-3 sheet s t ts z o n (then e m cs) l = let w = opened t o n z (told m) l in goes (w .0) (follows sheet (t .session′) ts cs (w .2) (next l t) (w .1))
+pub demand-3 : (sheet : List ℕ) (s : Session) (t : Turn) (ts : List Turn) → Sized s → t .call ≡ Call.Open → Calls sheet s (t ∷ ts) → (l : Ledger) → number (givenTo t) (t .call) l ≡ 0 → Follows l (t ∷ ts)
+demand-3 sheet s t ts z o (then e m cs) l k = let w = opened t o z (told m) l k in goes (w .0) (follows sheet (t .session′) ts cs (w .2) (next l t) (w .1))

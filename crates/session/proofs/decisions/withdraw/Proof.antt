@@ -1,3 +1,4 @@
+use Rattle.masks.specs.Settings.{lose-set}
 use borrow.Author.Needs.{needs}
 use Rattle.session.proofs.decisions.withdraw.Statement.{statement}
 use Rattle.session.proofs.decisions.withdraw.Tie as tie
@@ -18,7 +19,7 @@ element-write-r : tie.Need-element-write-r
 element-write-r c = search needs
 
 returns : tie.Need-returns
-returns c = rw (c .before .before .if1 .taken, c .clear-bit .ensures)
+returns c = rw (c .before .before .if1 .taken, c .clear-bit .ensures, lose-set (c .before .before .before .args .d .strikes) (c .before .before .before .args .f) (c .before .before .before .args .v))
 
 mul-clear-bit-2 : tie.Need-mul-clear-bit-2
 mul-clear-bit-2 c = search needs
@@ -36,7 +37,7 @@ element-write-r-2 : tie.Need-element-write-r-2
 element-write-r-2 c = search needs
 
 returns-2 : tie.Need-returns-2
-returns-2 c = rw (c .before .before .if1 .left, c .clear-bit2 .ensures)
+returns-2 c = rw (c .before .before .if1 .left, c .clear-bit2 .ensures, lose-set (c .before .before .before .args .d .choices) (c .before .before .before .args .f) (c .before .before .before .args .v))
 
 pub withdraw-spec : {M : Type 1} → statement M
 withdraw-spec =
