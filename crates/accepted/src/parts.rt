@@ -3,8 +3,7 @@ ghost use mathlib.Core.Path.{_≡_};
 ghost use Prim.Native.Nat.{_+_, _<_, _≤_};
 ghost use lib.ListN.{length, getD};
 ghost use Rattle.sheet.specs.Judge.{Accepted};
-ghost use Rattle.accepted.specs.Parts.{Field, FieldAt, RuleAt, fieldsOf, fieldStart, countOf, settingOf, reachOf, rulesOf, ruleStart, firstOf, secondOf, kindOf, numberOf, ruleAllows};
-use super::kinds::allowed;
+ghost use Rattle.accepted.specs.Parts.{Field, FieldAt, RuleAt, fieldsOf, fieldStart, countOf, settingOf, reachOf, rulesOf, ruleStart, firstOf, secondOf, kindOf, numberOf};
 
 fn at(numbers: &[u32], place: usize) -> u32
     requires { ⌜ place < length (now numbers) ⌝ }
@@ -111,20 +110,6 @@ pub fn after_rule(numbers: &[u32], r: usize, place: usize) -> usize
     place + 4
 }
 
-// The place of rule r.
-pub fn rule_start(numbers: &[u32], r: usize) -> usize
-    requires { ⌜ Accepted (now numbers) × (r ≤ rulesOf (now numbers)) ⌝ }
-    ensures { λ place. ⌜ place ≡ ruleStart (now (numbers .entry)) r ⌝ }
-{
-    let mut place = rules_start(numbers);
-    let mut k: usize = 0;
-    while k < r {
-        place = after_rule(numbers, k, place);
-        k += 1;
-    }
-    place
-}
-
 // The first field of rule r, which stands at a place.
 pub fn first(numbers: &[u32], r: usize, place: usize) -> usize
     requires { ⌜ RuleAt (now numbers) r place ⌝ }
@@ -158,15 +143,4 @@ pub fn number(numbers: &[u32], r: usize, place: usize, a: usize) -> u32
         return at(numbers, place + 3 + a);
     }
     at(numbers, place + 3)
-}
-
-// Whether it allows position a of its first field with position b of its second.
-pub fn rule_allows(numbers: &[u32], r: usize, place: usize, a: usize, b: usize) -> bool
-    requires { ⌜ RuleAt (now numbers) r place × (a < countOf (now numbers) (firstOf (now numbers) r)) × (b < countOf (now numbers) (secondOf (now numbers) r)) ⌝ }
-    ensures { λ t. ⌜ t ≡ ruleAllows (now (numbers .entry)) r a b ⌝ }
-{
-    let p = setting(numbers, first(numbers, r, place), a);
-    let q = setting(numbers, second(numbers, r, place), b);
-    let c = number(numbers, r, place, a);
-    allowed(kind(numbers, r, place), c, p, q, b as u32)
 }

@@ -1,4 +1,5 @@
-// Belaykeel for C and Rust: each call with the session by `&mut`. What a call answers is said in the crate `calls`.
+// Belaykeel for C and Rust: each call with the session by `&mut`. What a call answers is said in the crate `answering`. A slice is a pointer and a
+// length; a caller in C answers for it that the pointer is valid for that length and that what is written overlaps nothing else that is lent.
 ghost use Rattle.ledger.specs.declared.Call.{Call};
 ghost use Rattle.answering.specs.Answer.{Answers};
 ghost use Rattle.sheet.specs.Judge.{Gives, reading, writing};

@@ -21,7 +21,7 @@ use Rattle.closing.specs.Close.{Ready, Closes}
 use Rattle.closing.specs.Frame.{Live, wiped-by, wiped-same}
 use Rattle.engines.specs.Visit.{Visited}
 
--- An order (01): a list of n bytes that holds every field.
+-- What the engines ask of an order: n places, and every field at one. 01's order, `isOrder` of the ledger, is one (`order-low`, `order-every`).
 pub record IsOrder (n : ℕ) (order : List ℕ) : Type 0 where
   pub sized : length order ≡ n
   pub low : (q : ℕ) → q < n → getD order q 0 < n

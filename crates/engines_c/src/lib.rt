@@ -1,4 +1,5 @@
-// Finding the offers of a set, for the benchmark of the engines: a slice is a pointer and a length.
+// Finding the offers of a set, for the benchmark of the engines alone: no public call of the library, and it asks of its caller what it needs. A slice
+// is a pointer and a length. Free is what the work spaces hold afterwards, and the set where it is wiped out.
 ghost use lib.ListN.{take};
 ghost use Rattle.accepted.specs.Parts.{reachOf};
 ghost use Rattle.network.specs.SheetProblem.{sheetProblem};

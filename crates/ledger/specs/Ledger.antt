@@ -7,6 +7,7 @@ use lib.Dec.{eqb, ltb}
 use lib.ListN.{length}
 use Rattle.masks.specs.Tests.{allBelow, _⇒_}
 use Rattle.masks.specs.Masks.{maskOf}
+use Rattle.consistency.specs.Neighbourhood.{wholeReach}
 use Rattle.consistency.specs.Offers.{offers, wipedOut}
 use Rattle.sheet.specs.Pick.{pick}
 use Rattle.sheet.specs.Judge.{refusal, numbers, ofBytes}
@@ -23,7 +24,8 @@ pub data Decision : Type 0 where
   choice : ℕ → ℕ → Decision
   strike : ℕ → ℕ → Decision
 
--- An event: a decision was added, or withdrawn. What a forged session holds in an event's place may be none of the four kinds.
+-- An event: a decision was added, or withdrawn. What a forged session holds in an event's place may be none of the four kinds; no step of the
+-- ledger adds such an event.
 pub data Event : Type 0 where
   added : Decision → Event
   withdrawn : Decision → Event
@@ -144,9 +146,19 @@ pub record Given : Type 0 where
   pub rows : ℕ
   pub memory : ℕ
 
+-- the least words of the offers list and of the two work spaces
+abbrev pub offersWords : ℕ
+offersWords = 24
+
+abbrev pub rowsWords : ℕ
+rowsWords = 13248
+
+abbrev pub memoryWords : ℕ
+memoryWords = 13824
+
 -- 6
 unfoldable pub tooShort : Given → Bool
-tooShort g = ltb (g .offers) 24 || (ltb (g .rows) 13248 || ltb (g .memory) 13824)
+tooShort g = ltb (g .offers) offersWords || (ltb (g .rows) rowsWords || ltb (g .memory) memoryWords)
 
 unfoldable pub onSheet : List ℕ → Decision → Bool
 onSheet xs (choice f v) = ltb f (fieldsOf xs) && ltb v (countOf xs f)
@@ -228,7 +240,7 @@ abbrev cause7 : List ℕ → Call → ℕ → Cause
 cause7 xs c engine = because (unknownArgument xs engine (changeOf c)) 7
 
 abbrev cause8 : List ℕ → ℕ → Cause
-cause8 xs engine = because (eqb engine 2 && ltb (reachOf xs) 24) 8
+cause8 xs engine = because (eqb engine 2 && ltb (reachOf xs) wholeReach) 8
 
 abbrev cause9 : List ℕ → List ℕ → Cause
 cause9 xs order = because (not (isOrder (fieldsOf xs) order)) 9

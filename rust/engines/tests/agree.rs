@@ -192,6 +192,7 @@ fn agree_with_the_definitions() {
     assert!(wiped.min(narrowed).min(untouched) > 300, "{wiped} {narrowed} {untouched}");
 }
 
+// Holds the plain engines of the benchmark to the proved ones, on sheets too large for the definitions taken word by word.
 #[test]
 fn agree_on_larger_sheets() {
     let mut random = Random(2);
