@@ -1,0 +1,30 @@
+use mathlib.Core.Path.{sym}
+use Prim.Native.Nat.{ℕ}
+use lib.ListN.{length-replicate}
+use lib.Seq.{length-take-le}
+use borrow.Author.Needs.{needs}
+use denote.Ref.{now}
+use Rattle.belaykeel_offers.specs.Opening.{opening-is}
+use Rattle.belaykeel_offers.proofs.open_rising.Statement.{statement}
+use Rattle.belaykeel_offers.proofs.open_rising.Tie as tie
+
+slice-aggregate-open : tie.Need-slice-aggregate-open
+slice-aggregate-open c = sym (length-take-le _ _ (c .before .before .before .pre))
+
+returns : tie.Need-returns
+returns c =
+    let a = c .before .before .before .before .before .before .before .before .before .args in
+    opening-is (now (a .sheet)) (a .n) (now (a .offers)) _ _ _ _ _ _ _ _ (c .before .before .before .before .before .before .before .empty .ensures)
+    (length-replicate {A = ℕ} 13248 0) (length-replicate {A = ℕ} 13824 0) (c .before .before .«open» .ensures)
+
+pub open-rising-spec : {M : Type 1} → statement M
+open-rising-spec =
+    tie.close
+    (tie.spec
+    (λ c κs. search needs)
+    (λ c. search needs)
+    slice-aggregate-open
+    (λ c. search needs)
+    (λ c. search needs)
+    (λ c κs. search needs)
+    returns)

@@ -1,0 +1,167 @@
+// Reads a sheet from standard input, opens it with engine 1 and the fields in rising order, and prints the offers: a line for each field with
+// its position and the settings offered. For a sheet that is refused it prints the number.
+ghost use mathlib.Core.Path.{_≡_};
+ghost use Prim.Native.Nat.{_<_, _≤_};
+ghost use lib.ListN.{length};
+ghost use Rattle.sheet.specs.Limits.{mostNumbers};
+ghost use Rattle.sheet.specs.Judge.{Accepted};
+ghost use Rattle.accepted.specs.Parts.{Field, countOf};
+ghost use Rattle.belaykeel_offers.specs.Opening.{empty, opening, Opened};
+use accepted::parts;
+use calls::open;
+use libc::STDIN_FILENO;
+use libc::STDOUT_FILENO;
+use masks::has_bit;
+use session::Event;
+use session::Session;
+use sheet::answer::Answer;
+use sheet::answer::answered;
+use sheet::limits::MOST_NUMBERS;
+use sheet::reading::read;
+
+// More than a sheet's most bytes and one number past them: what comes later decides nothing.
+const INPUT_BYTES: usize = 32768;
+
+const ROWS_WORDS: usize = 13248;
+
+const MEMORY_WORDS: usize = 13824;
+
+// SAC-1.
+const ENGINE: u32 = 1;
+
+// No decisions, no events.
+fn empty() -> Session
+    ensures { λ r. ⌜ r ≡ empty ⌝ }
+{
+    let none = Event {
+        kind: 0,
+        field: 0,
+        position: 0,
+    };
+    Session {
+        choices: [0u32; 24],
+        strikes: [0u32; 24],
+        events: [none; 64],
+        count: 0,
+    }
+}
+
+// Opens the sheet with its n fields in rising order.
+fn open_rising(sheet: &[u8], n: usize, offers: &mut [u32; 24]) -> u32
+    requires { ⌜ n ≤ 24 ⌝ }
+    ensures { λ r. ⌜ (r ≡ opening (now (sheet .entry)) n (now (offers .entry)) .number) × (now (offers .exit) ≡ opening (now (sheet .entry)) n (now (offers .entry)) .offers) ⌝ }
+{
+    let rising = [
+        0u8,
+        1,
+        2,
+        3,
+        4,
+        5,
+        6,
+        7,
+        8,
+        9,
+        10,
+        11,
+        12,
+        13,
+        14,
+        15,
+        16,
+        17,
+        18,
+        19,
+        20,
+        21,
+        22,
+        23,
+    ];
+    let mut rows = [0u32; ROWS_WORDS];
+    let mut memory = [0u32; MEMORY_WORDS];
+    let out = open(
+        empty(),
+        sheet,
+        ENGINE,
+        &rising[..n],
+        offers,
+        &mut rows,
+        &mut memory,
+    );
+    out.number
+}
+
+// The sheet's numbers, and what open answers.
+fn opened(sheet: &[u8], numbers: &mut [u32], offers: &mut [u32; 24]) -> Answer
+    requires { ⌜ (mostNumbers ≤ length (now numbers)) × (24 ≤ length (now offers)) ⌝ }
+    ensures { λ r. ⌜ Opened (now (sheet .entry)) (now (offers .entry)) r (now (numbers .exit)) (now (offers .exit)) ⌝ }
+{
+    let found = read(sheet, numbers);
+    if found.number != 0 {
+        return found;
+    }
+    let count = found.length;
+    let n = parts::fields(&numbers[..count]);
+    answered(open_rising(sheet, n, offers), count)
+}
+
+fn print_refused(number: u32) {
+    io::write_all(STDOUT_FILENO, b"refused ");
+    io::print_decimal(STDOUT_FILENO, number as u64);
+    io::write_all(STDOUT_FILENO, b"\n");
+}
+
+// A blank and the setting, where the mask offers the position.
+fn print_offer(numbers: &[u32], f: usize, v: usize, mask: u32)
+    requires { ⌜ Field (now numbers) f × (v < countOf (now numbers) f) ⌝ }
+{
+    if has_bit(mask, v) {
+        io::write_all(STDOUT_FILENO, b" ");
+        io::print_decimal(STDOUT_FILENO, parts::setting(numbers, f, v) as u64);
+    }
+}
+
+// The line of a field.
+fn print_field(numbers: &[u32], f: usize, mask: u32)
+    requires { ⌜ Field (now numbers) f ⌝ }
+{
+    io::print_decimal(STDOUT_FILENO, f as u64);
+    io::write_all(STDOUT_FILENO, b":");
+    let d = parts::count(numbers, f);
+    let mut v: usize = 0;
+    while v < d {
+        print_offer(numbers, f, v, mask);
+        v += 1;
+    }
+    io::write_all(STDOUT_FILENO, b"\n");
+}
+
+fn print_fields(numbers: &[u32], offers: &[u32; 24])
+    requires { ⌜ Accepted (now numbers) ⌝ }
+{
+    let n = parts::fields(numbers);
+    let mut f: usize = 0;
+    while f < n {
+        print_field(numbers, f, offers[f]);
+        f += 1;
+    }
+}
+
+// The offers of a sheet, or its refusal.
+fn print_offers(sheet: &[u8]) {
+    let mut numbers = [0u32; MOST_NUMBERS];
+    let mut offers = [0u32; 24];
+    let answer = opened(sheet, &mut numbers, &mut offers);
+    if answer.number != 0 {
+        print_refused(answer.number);
+        return;
+    }
+    let count = answer.length;
+    print_fields(&numbers[..count], &offers);
+}
+
+fn main() {
+    let mut input = [0u8; INPUT_BYTES];
+    let n = io::read_full(STDIN_FILENO, &mut input);
+    print_offers(&input[..n]);
+}

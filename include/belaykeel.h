@@ -1,0 +1,123 @@
+/* Belaykeel: the offers of a set-up page, kept under choices and strikes that are withdrawn in any order.
+ *
+ * Every call returns 0, or the number of the first cause of its refusal (the table below); a refused call leaves session, offers list and
+ * output as they were. No call allocates, and none asks anything of its arguments but what C asks: each pointer is valid for its length, and
+ * what a call writes (session, offers, rows, memory, output) overlaps nothing else that it is given.
+ */
+#ifndef BELAYKEEL_H
+#define BELAYKEEL_H
+
+#include <stddef.h>
+#include <stdint.h>
+
+#ifdef __cplusplus
+extern "C" {
+#endif
+
+#define BELAYKEEL_FIELDS 24 /* the most fields of a sheet, and the most settings of a field */
+#define BELAYKEEL_EVENTS 64 /* the most events of a session */
+#define BELAYKEEL_SHEET_BYTES 29080 /* the most bytes of a sheet */
+#define BELAYKEEL_SHEET_NUMBERS 8055 /* the most numbers of a sheet */
+#define BELAYKEEL_OFFERS_WORDS 24 /* the least words of the offers list */
+#define BELAYKEEL_ROWS_WORDS 13248 /* the least words of the first work space */
+#define BELAYKEEL_MEMORY_WORDS 13824 /* the least words of the second work space */
+
+/* The numbers, in words. They are tried in the order 6; 1 to 5; 15, 7, 8, 9, 10, 11, 13, 12, 14; open skips 15. */
+enum {
+    BELAYKEEL_ACCEPTED = 0,
+    BELAYKEEL_ENDS_INSIDE = 1, /* bytes or numbers end inside the sheet */
+    BELAYKEEL_ILL_FORMED = 2, /* a fourth group continues, or a last group is 0 after another group */
+    BELAYKEEL_OUT_OF_RANGE = 3, /* a number of the sheet is outside its range */
+    BELAYKEEL_OUT_OF_ORDER = 4, /* settings or rules do not rise, or a rule's first field is not below its second */
+    BELAYKEEL_SURPLUS = 5, /* bytes or numbers follow the last rule */
+    BELAYKEEL_TOO_SHORT = 6, /* the offers list, a work space or the output is too short */
+    BELAYKEEL_UNKNOWN = 7, /* the engine is not 1 to 3, or the field or position is not on the sheet */
+    BELAYKEEL_TOO_NARROW = 8, /* engine 2 with a reach below 24 */
+    BELAYKEEL_NO_ORDER = 9, /* the order does not hold every field just one time */
+    BELAYKEEL_ADDED_AGAIN = 10, /* the decision to add is in force */
+    BELAYKEEL_NOT_IN_FORCE = 11, /* the decision to withdraw is not in force */
+    BELAYKEEL_NO_ROOM = 12, /* there are 64 events and one is to be added */
+    BELAYKEEL_NOTHING_PAST = 13, /* back, and there is no event */
+    BELAYKEEL_WIPED_OUT = 14, /* under the decisions that would hold after the call a field has no offer */
+    BELAYKEEL_MALFORMED = 15 /* the session is malformed */
+};
+
+/* The engines. None alters the offers; 1 and 3 serve every sheet. */
+enum {
+    BELAYKEEL_SAC_1 = 1,
+    BELAYKEEL_SAC_2 = 2, /* at reach 24 only */
+    BELAYKEEL_QUEUE = 3
+};
+
+/* An event: kind 1 is a choice added, 2 a strike added, 3 a choice withdrawn, 4 a strike withdrawn. */
+typedef struct {
+    uint32_t kind;
+    uint32_t field;
+    uint32_t position;
+} belaykeel_event;
+
+/* What the control room holds between calls. Bit v of choices[f] means that position v of field f is chosen, and of strikes[f] that it is
+ * struck. The first `count` events have happened, the oldest first; later places are not read. Before open it may hold anything. */
+typedef struct {
+    uint32_t choices[BELAYKEEL_FIELDS];
+    uint32_t strikes[BELAYKEEL_FIELDS];
+    belaykeel_event events[BELAYKEEL_EVENTS];
+    uint32_t count;
+} belaykeel_session;
+
+/* What reading and writing give: 0 and how many numbers or bytes, or the number of a refusal and 0. */
+typedef struct {
+    uint32_t number;
+    size_t length;
+} belaykeel_answer;
+
+/* The parameters of a call:
+ *   session            altered by an accepted call
+ *   sheet              the sheet's bytes
+ *   engine             1, 2 or 3
+ *   order              the field positions in the order in which the engine visits them, each just one time
+ *   field, position    the decision, counted from 0
+ *   offers             an accepted call writes a mask for each field of the sheet: bit v means that position v is offered; later words stay
+ *   rows, memory       work spaces; what they hold before does not matter, and they hold anything afterwards
+ */
+
+/* Starts: no decisions, no events. */
+uint32_t belaykeel_open(belaykeel_session *session, const uint8_t *sheet, size_t sheet_len, uint32_t engine, const uint8_t *order, size_t order_len,
+    uint32_t *offers, size_t offers_len, uint32_t *rows, size_t rows_len, uint32_t *memory, size_t memory_len);
+
+/* Changes nothing and gives the offers. */
+uint32_t belaykeel_show(belaykeel_session *session, const uint8_t *sheet, size_t sheet_len, uint32_t engine, const uint8_t *order, size_t order_len,
+    uint32_t *offers, size_t offers_len, uint32_t *rows, size_t rows_len, uint32_t *memory, size_t memory_len);
+
+/* Adds a choice, or a strike. */
+uint32_t belaykeel_choose(belaykeel_session *session, const uint8_t *sheet, size_t sheet_len, uint32_t engine, const uint8_t *order, size_t order_len,
+    uint32_t field, uint32_t position, uint32_t *offers, size_t offers_len, uint32_t *rows, size_t rows_len, uint32_t *memory, size_t memory_len);
+uint32_t belaykeel_strike(belaykeel_session *session, const uint8_t *sheet, size_t sheet_len, uint32_t engine, const uint8_t *order, size_t order_len,
+    uint32_t field, uint32_t position, uint32_t *offers, size_t offers_len, uint32_t *rows, size_t rows_len, uint32_t *memory, size_t memory_len);
+
+/* Withdraws a choice, or a strike, whenever it was made. */
+uint32_t belaykeel_withdraw_choice(belaykeel_session *session, const uint8_t *sheet, size_t sheet_len, uint32_t engine, const uint8_t *order,
+    size_t order_len, uint32_t field, uint32_t position, uint32_t *offers, size_t offers_len, uint32_t *rows, size_t rows_len, uint32_t *memory,
+    size_t memory_len);
+uint32_t belaykeel_withdraw_strike(belaykeel_session *session, const uint8_t *sheet, size_t sheet_len, uint32_t engine, const uint8_t *order,
+    size_t order_len, uint32_t field, uint32_t position, uint32_t *offers, size_t offers_len, uint32_t *rows, size_t rows_len, uint32_t *memory,
+    size_t memory_len);
+
+/* Drops the latest event and reverses it: an added decision goes, a withdrawn one returns. */
+uint32_t belaykeel_back(belaykeel_session *session, const uint8_t *sheet, size_t sheet_len, uint32_t engine, const uint8_t *order, size_t order_len,
+    uint32_t *offers, size_t offers_len, uint32_t *rows, size_t rows_len, uint32_t *memory, size_t memory_len);
+
+/* Drops all events; the decisions remain. */
+uint32_t belaykeel_coil_on(belaykeel_session *session, const uint8_t *sheet, size_t sheet_len, uint32_t engine, const uint8_t *order, size_t order_len,
+    uint32_t *offers, size_t offers_len, uint32_t *rows, size_t rows_len, uint32_t *memory, size_t memory_len);
+
+/* Reads a sheet's bytes to its list of numbers, and writes such a list as bytes. Refused by 1 to 5 first and by 6 last; places past the output
+ * stay as they were. */
+belaykeel_answer belaykeel_read(const uint8_t *sheet, size_t sheet_len, uint32_t *output, size_t output_len);
+belaykeel_answer belaykeel_write(const uint32_t *numbers, size_t numbers_len, uint8_t *output, size_t output_len);
+
+#ifdef __cplusplus
+}
+#endif
+
+#endif
