@@ -1,0 +1,57 @@
+// Cases of the calls, the session by value. Each call has a line: its number; the first three words of the offers list, all 9 before it; of the
+// session after it the choices and the strikes of fields 0 and 1, and the count of events.
+mod forged; // forged.rt: sessions that no call has made
+mod line; // line.rt: the lines
+mod refused; // refused.rt: spaces, sheets, arguments, reaches and orders
+mod run; // run.rt: a call run on a sheet
+mod script; // script.rt: calls one after another, written as text
+
+use ledger::Call;
+use run::fresh;
+use run::quiet;
+use script::play;
+use session::Session;
+
+// Sheet D by an engine: a strike withdrawn before the choice made after it, and single decisions.
+fn sheet_d(engine: u32) {
+    line::named(b"-- sheet D, engine", engine);
+    play(fresh(), engine, b"o.. s02 c11 c10 S02 h.. C10 b.. o.. ");
+    play(fresh(), engine, b"c00 s00 ");
+}
+
+// A strike and its withdrawal, 31 times.
+fn sixty_two() -> Session {
+    let mut s = fresh();
+    let mut k: u32 = 0;
+    while k < 31 {
+        let struck = quiet(Call::Strike(0, 2), s);
+        let withdrawn = quiet(Call::WithdrawStrike(0, 2), struck);
+        s = withdrawn;
+        k += 1;
+    }
+    s
+}
+
+fn events() {
+    line::heading(b"-- 10 and 11: in force or not");
+    play(fresh(), 1, b"S02 s02 s02 C02 S01 c02 c01 c01 c02 ");
+    line::heading(b"-- 13: back");
+    play(fresh(), 1, b"b.. s02 S02 b.. b.. b.. ");
+    line::heading(b"-- coil-on, then back");
+    play(fresh(), 1, b"s02 n.. b.. s02 h.. S02 ");
+    line::heading(b"-- 12: 62 events, and more");
+    play(
+        sixty_two(),
+        1,
+        b"s02 S02 s02 S02 c00 h.. b.. b.. c10 c00 c01 c01 n.. ",
+    );
+}
+
+fn main() {
+    sheet_d(1);
+    sheet_d(2);
+    sheet_d(3);
+    events();
+    refused::cases();
+    forged::cases();
+}

@@ -1,0 +1,144 @@
+// Spaces that are too short, sheets that are refused, and arguments, engines and orders that are not as they should be.
+ghost use Prim.Native.Nat.{_≤_};
+use super::forged::overfull;
+use super::line;
+use super::run;
+use super::run::fresh;
+use super::run::long_list;
+use super::run::on_d;
+use super::run::on_sheet;
+use super::script::one;
+use ledger::Call;
+
+// Open on a sheet that 2 would refuse, with every word of the spaces 5 before it.
+fn short_call(name: &[u8], offers: &mut [u32], rows: &mut [u32], memory: &mut [u32]) {
+    let out = run::call(
+        Call::Open,
+        fresh(),
+        b"\x80\x00",
+        0,
+        b"",
+        offers,
+        rows,
+        memory,
+    );
+    line::text(name);
+    line::number(out.number);
+    line::space(offers, 5);
+    line::space(rows, 5);
+    line::space(memory, 5);
+    line::text(b"\n");
+}
+
+// With spaces of these lengths.
+fn short(name: &[u8], list: usize, first: usize, second: usize)
+    requires { ⌜ (list ≤ 24) × (first ≤ 13248) × (second ≤ 13824) ⌝ }
+{
+    let mut offers = [5u32; 24];
+    let mut rows = [5u32; run::ROWS_WORDS];
+    let mut memory = [5u32; run::MEMORY_WORDS];
+    short_call(
+        name,
+        &mut offers[..list],
+        &mut rows[..first],
+        &mut memory[..second],
+    );
+}
+
+fn spaces() {
+    line::heading(b"-- 6, before 2: offers, rows, memory");
+    short(b"offers of 23: ", 23, 13248, 13824);
+    short(b"rows of 13247: ", 24, 13247, 13824);
+    short(b"memory of 13823: ", 24, 13248, 13823);
+    short(b"no words: ", 0, 0, 0);
+    line::heading(b"-- an offers list of 30 words");
+    long_list(b"open: ", Call::Open);
+    long_list(b"choose 0/0: ", Call::Choose(0, 0));
+}
+
+// Show of a malformed session, with engine 0 and no order.
+fn sheet(name: &[u8], bytes: &[u8]) {
+    line::text(name);
+    on_sheet(Call::Show, overfull(), bytes, 0, b"");
+}
+
+fn sheets() {
+    line::heading(b"-- 1 to 5, before 15");
+    sheet(b"no bytes", b"");
+    sheet(
+        b"sheet D, its last byte missing",
+        b"\x02\x03\x64\xC8\x01\xAC\x02\x03\x64\xC8\x01\xAC\x02\x18\x01\x00\x01\x01",
+    );
+    sheet(b"80 00", b"\x80\x00");
+    sheet(b"80 80 80 80", b"\x80\x80\x80\x80");
+    sheet(b"25 fields", b"\x19");
+    sheet(b"i = j", b"\x02\x01\x00\x01\x00\x18\x01\x01\x01\x01\x00");
+    sheet(b"a byte more", b"\x01\x01\xAC\x02\x18\x00\x00");
+    sheet(b"a right sheet", b"\x01\x01\xAC\x02\x18\x00");
+}
+
+// Sheet D at reach 1.
+fn near(name: &[u8], engine: u32, order: &[u8]) {
+    line::text(name);
+    on_sheet(
+        Call::Open,
+        fresh(),
+        b"\x02\x03\x64\xC8\x01\xAC\x02\x03\x64\xC8\x01\xAC\x02\x01\x01\x00\x01\x01\x64",
+        engine,
+        order,
+    );
+}
+
+fn reaches() {
+    line::heading(b"-- 8 at reach 1, before 9");
+    near(b"engine 1", 1, b"\x00\x01");
+    near(b"engine 2", 2, b"\x00\x01");
+    near(b"engine 2, no order", 2, b"");
+    near(b"engine 3", 3, b"\x00\x01");
+}
+
+// Open with an order.
+fn order(name: &[u8], engine: u32, order: &[u8]) {
+    line::text(name);
+    on_d(Call::Open, fresh(), engine, order);
+}
+
+fn orders() {
+    line::heading(b"-- 9, before 14");
+    order(b"1 0", 1, b"\x01\x00");
+    order(b"no order", 1, b"");
+    order(b"0", 1, b"\x00");
+    order(b"0 0", 2, b"\x00\x00");
+    order(b"0 2", 3, b"\x00\x02");
+    order(b"0 1 0", 1, b"\x00\x01\x00");
+    line::text(b"choose 0/0, 1 1");
+    on_d(Call::Choose(0, 0), fresh(), 1, b"\x01\x01");
+}
+
+fn engine(x: u32) {
+    line::text(b"engine ");
+    line::number(x);
+    line::text(b", ");
+    one(Call::Show, fresh(), x);
+}
+
+fn arguments() {
+    line::heading(b"-- 7");
+    one(Call::Strike(2, 0), fresh(), 1);
+    one(Call::Strike(0, 3), fresh(), 1);
+    one(Call::Choose(24, 0), fresh(), 1);
+    one(Call::Choose(0, 4294967295), fresh(), 1);
+    one(Call::WithdrawStrike(0, 32), fresh(), 1);
+    one(Call::WithdrawChoice(4294967295, 0), fresh(), 1);
+    engine(0);
+    engine(4);
+    engine(4294967295);
+}
+
+pub fn cases() {
+    spaces();
+    sheets();
+    arguments();
+    reaches();
+    orders();
+}

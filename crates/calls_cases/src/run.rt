@@ -1,0 +1,136 @@
+// A call run on a sheet.
+use super::line;
+use calls::back;
+use calls::choose;
+use calls::coil_on;
+use calls::open;
+use calls::show;
+use calls::strike;
+use calls::withdraw_choice;
+use calls::withdraw_strike;
+use ledger::Call;
+use session::Event;
+use session::Outcome;
+use session::Session;
+
+// The least words of the work spaces.
+pub const ROWS_WORDS: usize = 13248;
+
+pub const MEMORY_WORDS: usize = 13824;
+
+// What each word of the offers list and of the work spaces is before a call.
+pub const OFFERS_BEFORE: u32 = 9;
+
+pub const ROOM_BEFORE: u32 = 4294967295;
+
+// No decisions, no events.
+pub fn fresh() -> Session {
+    let none = Event {
+        kind: 0,
+        field: 0,
+        position: 0,
+    };
+    Session {
+        choices: [0u32; 24],
+        strikes: [0u32; 24],
+        events: [none; 64],
+        count: 0,
+    }
+}
+
+// The call by its name.
+pub fn call(
+    what: Call,
+    s: Session,
+    sheet: &[u8],
+    engine: u32,
+    order: &[u8],
+    offers: &mut [u32],
+    rows: &mut [u32],
+    memory: &mut [u32],
+) -> Outcome {
+    match what {
+        Call::Open => open(s, sheet, engine, order, offers, rows, memory),
+        Call::Show => show(s, sheet, engine, order, offers, rows, memory),
+        Call::Choose(f, v) => choose(s, sheet, engine, order, f, v, offers, rows, memory),
+        Call::Strike(f, v) => strike(s, sheet, engine, order, f, v, offers, rows, memory),
+        Call::WithdrawChoice(f, v) => {
+            withdraw_choice(s, sheet, engine, order, f, v, offers, rows, memory)
+        }
+        Call::WithdrawStrike(f, v) => {
+            withdraw_strike(s, sheet, engine, order, f, v, offers, rows, memory)
+        }
+        Call::Back => back(s, sheet, engine, order, offers, rows, memory),
+        Call::CoilOn => coil_on(s, sheet, engine, order, offers, rows, memory),
+    }
+}
+
+// A call with work spaces of the least length.
+fn roomy(
+    what: Call,
+    s: Session,
+    sheet: &[u8],
+    engine: u32,
+    order: &[u8],
+    offers: &mut [u32],
+) -> Outcome {
+    let mut rows = [ROOM_BEFORE; ROWS_WORDS];
+    let mut memory = [ROOM_BEFORE; MEMORY_WORDS];
+    call(
+        what,
+        s,
+        sheet,
+        engine,
+        order,
+        offers,
+        &mut rows,
+        &mut memory,
+    )
+}
+
+// A call on any sheet, with any engine and order, and the end of its line. The session after it.
+pub fn on_sheet(what: Call, s: Session, sheet: &[u8], engine: u32, order: &[u8]) -> Session {
+    let mut offers = [OFFERS_BEFORE; 24];
+    let out = roomy(what, s, sheet, engine, order, &mut offers);
+    line::answered(out.number, &offers, out.session);
+    out.session
+}
+
+// The same on sheet D.
+pub fn on_d(what: Call, s: Session, engine: u32, order: &[u8]) -> Session {
+    on_sheet(
+        what,
+        s,
+        b"\x02\x03\x64\xC8\x01\xAC\x02\x03\x64\xC8\x01\xAC\x02\x18\x01\x00\x01\x01\x64",
+        engine,
+        order,
+    )
+}
+
+// A call on sheet D with engine 1 that prints nothing.
+fn call_d(what: Call, s: Session, offers: &mut [u32]) -> Outcome {
+    roomy(
+        what,
+        s,
+        b"\x02\x03\x64\xC8\x01\xAC\x02\x03\x64\xC8\x01\xAC\x02\x18\x01\x00\x01\x01\x64",
+        1,
+        b"\x00\x01",
+        offers,
+    )
+}
+
+pub fn quiet(what: Call, s: Session) -> Session {
+    let mut offers = [OFFERS_BEFORE; 24];
+    let out = call_d(what, s, &mut offers);
+    out.session
+}
+
+// With an offers list of 30 words: how many change.
+pub fn long_list(name: &[u8], what: Call) {
+    let mut offers = [OFFERS_BEFORE; 30];
+    let out = call_d(what, fresh(), &mut offers);
+    line::text(name);
+    line::number(out.number);
+    line::space(&offers, OFFERS_BEFORE);
+    line::text(b"\n");
+}

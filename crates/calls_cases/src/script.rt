@@ -1,0 +1,66 @@
+// Calls one after another, written as text. A call has four bytes: a letter, the digits of a field and a position, and a blank.
+use super::line;
+use super::run::on_d;
+use ledger::Call;
+use session::Session;
+
+// o open, h show, c choose, s strike, C withdraw choice, S withdraw strike, b back, n coil-on.
+fn call_of(letter: u8, f: u32, v: u32) -> Call {
+    match letter {
+        b'o' => Call::Open,
+        b'c' => Call::Choose(f, v),
+        b's' => Call::Strike(f, v),
+        b'C' => Call::WithdrawChoice(f, v),
+        b'S' => Call::WithdrawStrike(f, v),
+        b'b' => Call::Back,
+        b'n' => Call::CoilOn,
+        _ => Call::Show,
+    }
+}
+
+// The setting of a decision.
+fn setting(name: &[u8], f: u32, v: u32) {
+    line::text(name);
+    line::number(f);
+    line::text(b"/");
+    line::number(v);
+}
+
+// The call's name, with the setting of its decision.
+pub fn name(call: Call) {
+    match call {
+        Call::Open => line::text(b"open"),
+        Call::Show => line::text(b"show"),
+        Call::Choose(f, v) => setting(b"choose ", f, v),
+        Call::Strike(f, v) => setting(b"strike ", f, v),
+        Call::WithdrawChoice(f, v) => setting(b"withdraw choice ", f, v),
+        Call::WithdrawStrike(f, v) => setting(b"withdraw strike ", f, v),
+        Call::Back => line::text(b"back"),
+        Call::CoilOn => line::text(b"coil-on"),
+    }
+}
+
+fn digit(b: u8) -> u32 {
+    if b < b'0' {
+        return 0;
+    }
+    (b - b'0') as u32
+}
+
+// A call on sheet D, with its whole line. The session after it.
+pub fn one(call: Call, s: Session, engine: u32) -> Session {
+    name(call);
+    on_d(call, s, engine, b"\x00\x01")
+}
+
+// The calls of a script on sheet D, with an engine.
+pub fn play(start: Session, engine: u32, script: &[u8]) {
+    let mut s = start;
+    let mut k: usize = 0;
+    while k + 3 < script.len() {
+        let call = call_of(script[k], digit(script[k + 1]), digit(script[k + 2]));
+        let next = one(call, s, engine);
+        s = next;
+        k += 4;
+    }
+}
