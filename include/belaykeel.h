@@ -1,8 +1,8 @@
 /* Belaykeel: the offers of a set-up page, kept under choices and strikes that are withdrawn in any order.
  *
  * Every call returns 0, or the number of the first cause of its refusal (the table below); a refused call leaves session, offers list and
- * output as they were. No call allocates, and none asks anything of its arguments but what C asks: each pointer is valid for its length, and
- * what a call writes (session, offers, rows, memory, output) overlaps nothing else that it is given.
+ * output as they were. No call allocates, and none asks anything of its arguments but what C asks: each pointer is valid for its length (and not
+ * NULL, even where the length is 0), and what a call writes (session, offers, rows, memory, output) overlaps nothing else that it is given.
  */
 #ifndef BELAYKEEL_H
 #define BELAYKEEL_H

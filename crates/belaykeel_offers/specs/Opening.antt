@@ -52,6 +52,15 @@ opening-is sheet n before rows memory s k s′ after rows′ memory′ e r m w =
     same : record { number = k; session = s′; offers = after } ≡ opening sheet n before
     same = rw (r, m, e) at (w .answers)
 
+-- a sheet that is refused by 1 to 5
+pub opening-refused : (sheet : List ℕ) (n : ℕ) (before : List ℕ) → 24 ≤ length before → eqb (refusal (ofBytes sheet)) 0 ≡ false
+    → opening sheet n before ≡ record { number = refusal (ofBytes sheet); session = empty; offers = before }
+unfolding answer number tooShort
+opening-refused sheet n before l e = rw number-is (pick-false _ _ _ e)
+  where
+    number-is : number (givenTo sheet n (length before)) Open (view empty) ≡ refusal (ofBytes sheet)
+    number-is = pick-false _ _ _ (ap (λ (b : Bool). b || false) (le-ltb (length before) 24 l)) ∙ pick-false _ _ _ e
+
 -- the list of the numbers of a sheet
 abbrev pub listOf : List ℕ → List ℕ
 listOf sheet = numbers (ofBytes sheet)
@@ -87,13 +96,9 @@ module _ (sheet list : List ℕ) (room : mostNumbers ≤ length list) (r : Read)
     length-is = ap (λ (a : Read). a .length) (g .answers ∙ ap (λ (o : Outcome). o .answer) given) ∙ pick-false _ _ _ refused
 
     -- open's number is the same
-    opens : (k : ℕ) (before : List ℕ) → 24 ≤ length before → number (givenTo sheet k (length before)) Open (view empty) ≡ refusal (ofBytes sheet)
-    unfolding number tooShort
-    opens k before l = pick-false _ _ _ (ap (λ (b : Bool). b || false) (le-ltb (length before) 24 l)) ∙ pick-false _ _ _ refused
-
     pub opened-refused : (before : List ℕ) → 24 ≤ length before → Opened sheet before r front before
     opened-refused before l =
-        let same : opening sheet (fieldsOf (listOf sheet)) before ≡ record { number = refusal (ofBytes sheet); session = empty; offers = before } = unfold answer in rw (opens (fieldsOf (listOf sheet)) before l) (pick-false _ _ _ refused) in
+        let same = opening-refused sheet (fieldsOf (listOf sheet)) before l refused in
         record {
           number = number-is ∙ sym (ap (λ (a : Answer). a .number) same);
           offers = sym (ap (λ (a : Answer). a .offers) same);

@@ -19,7 +19,7 @@ use sheet::answer::answered;
 use sheet::limits::MOST_NUMBERS;
 use sheet::reading::read;
 
-// More than a sheet's most bytes and one number past them: what comes later decides nothing.
+// What comes later decides nothing: `later-bytes` in specs/Input.antt.
 const INPUT_BYTES: usize = 32768;
 
 const ROWS_WORDS: usize = 13248;
@@ -51,32 +51,8 @@ fn open_rising(sheet: &[u8], n: usize, offers: &mut [u32; 24]) -> u32
     requires { ⌜ n ≤ 24 ⌝ }
     ensures { λ r. ⌜ (r ≡ opening (now (sheet .entry)) n (now (offers .entry)) .number) × (now (offers .exit) ≡ opening (now (sheet .entry)) n (now (offers .entry)) .offers) ⌝ }
 {
-    let rising = [
-        0u8,
-        1,
-        2,
-        3,
-        4,
-        5,
-        6,
-        7,
-        8,
-        9,
-        10,
-        11,
-        12,
-        13,
-        14,
-        15,
-        16,
-        17,
-        18,
-        19,
-        20,
-        21,
-        22,
-        23,
-    ];
+    let rising: &[u8] =
+        b"\x00\x01\x02\x03\x04\x05\x06\x07\x08\x09\x0A\x0B\x0C\x0D\x0E\x0F\x10\x11\x12\x13\x14\x15\x16\x17";
     let mut rows = [0u32; ROWS_WORDS];
     let mut memory = [0u32; MEMORY_WORDS];
     let out = open(

@@ -9,11 +9,11 @@ use Rattle.belaykeel_offers.proofs.open_rising.Statement.{statement}
 use Rattle.belaykeel_offers.proofs.open_rising.Tie as tie
 
 slice-aggregate-open : tie.Need-slice-aggregate-open
-slice-aggregate-open c = sym (length-take-le _ _ (c .before .before .before .pre))
+slice-aggregate-open c = sym (length-take-le _ _ (c .before .before .before .before .pre))
 
 returns : tie.Need-returns
 returns c =
-    let a = c .before .before .before .before .before .before .before .before .before .args in
+    let a = c .before .before .before .before .before .before .before .before .before .before .args in
     opening-is (now (a .sheet)) (a .n) (now (a .offers)) _ _ _ _ _ _ _ _ (c .before .before .before .before .before .before .before .empty .ensures)
     (length-replicate {A = ℕ} 13248 0) (length-replicate {A = ℕ} 13824 0) (c .before .before .«open» .ensures)
 
@@ -21,8 +21,8 @@ pub open-rising-spec : {M : Type 1} → statement M
 open-rising-spec =
     tie.close
     (tie.spec
-    (λ c κs. search needs)
     (λ c. search needs)
+    (λ c κs. search needs)
     slice-aggregate-open
     (λ c. search needs)
     (λ c. search needs)
