@@ -1,36 +1,19 @@
 -- The union of the rows of some positions. Assumes nothing.
 use mathlib.Core.Path.{_≡_, refl, sym, ap, _∙_}
 use mathlib.Core.Logic.{⊎-elim}
-use mathlib.Core.Bool.{Bool, true, false, cond}
+use mathlib.Core.Bool.{Bool, true, false}
 use mathlib.Core.List.{List}
-use Prim.Native.Nat.{ℕ, zero, suc, _+_, _*_, _/_, _^_, _≤_, _<_}
+use Prim.Native.Nat.{ℕ, zero, suc, _+_, _^_, _≤_, _<_}
 use native.Mathlib.Nat.{eq-or-lt-of-le, le-of-suc-le-suc}
 use native.Mathlib.Numerals.{add-one}
 use native.Mathlib.Omega.{arith}
-use lib.Bits.{bitAnd, bitOr, and-le-r, and-zero-r, or-zero-r}
+use lib.Bits.{bitAnd, bitOr, and-zero-r, or-zero-r}
 use lib.ListN.{length, getD, set, length-set}
 use lib.Seq.{getD-set-same, getD-set-other}
-use borrow.Author.Tests.{eqb-true, eqb-false}
-use Rattle.masks.specs.Tests.{never, not-so, bool-cases, and-l, and-r, and-by, or-l, or-r, or-at}
-use Rattle.masks.specs.Bits.{bit, bit-of-zero, bit-bound}
-use Rattle.masks.specs.Words.{bit-and, bit-or, bit-not, shr-one}
-
--- all ones of a word where v is a position of x, else 0
-unfoldable pub flood : ℕ → ℕ → ℕ
-flood x v = cond (bit x v) 4294967295 0
-
--- as code spells it
-pub flood-code : (x v : ℕ) → bitAnd (x / 2 ^ v) 1 * 4294967295 ≡ flood x v
-unfolding flood
-flood-code x v = go (bit x v) refl
-  where
-    go : (t : Bool) → bit x v ≡ t → bitAnd (x / 2 ^ v) 1 * 4294967295 ≡ cond t 4294967295 0
-    go true e = ap (λ (n : ℕ). n * 4294967295) (eqb-true (bitAnd (x / 2 ^ v) 1) 1 (shr-one x v ∙ e))
-    go false e =
-        let n = eqb-false (bitAnd (x / 2 ^ v) 1) 1 (shr-one x v ∙ e) in
-        let l = and-le-r (x / 2 ^ v) 1 in
-        let z : bitAnd (x / 2 ^ v) 1 ≡ 0 = omega arith in
-        ap (λ (n : ℕ). n * 4294967295) z
+use Rattle.masks.specs.Tests.{never, and-l, and-r, and-by, or-l, or-r, or-at}
+use Rattle.masks.specs.Bits.{bit, bit-of-zero, bit-high}
+use Rattle.masks.specs.Words.{bit-and, bit-or}
+use Rattle.masks.specs.Floods.{flood, flood-at, flood-by, flood-none}
 
 -- the union of the rows of the positions of own below w
 unfoldable pub unionBelow : ℕ → List ℕ → ℕ → ℕ
@@ -46,11 +29,8 @@ module _ (rows : List ℕ) (own : ℕ) where
   union-at zero u e = absurd (never e (bit-of-zero u))
   union-at (suc w) u e =
       ⊎-elim (union-at w u)
-      (λ q. let p = sym (bit-and (getD rows w 0) (flood own w) u) ∙ q in (w, flooded (and-r (bit (getD rows w 0) u) _ p), and-l _ _ p))
+      (λ q. let p = sym (bit-and (getD rows w 0) (flood own w) u) ∙ q in (w, flood-at own w u (and-r (bit (getD rows w 0) u) _ p), and-l _ _ p))
       (or-at (bit (unionBelow w rows own) u) _ (sym (bit-or (unionBelow w rows own) (bitAnd (getD rows w 0) (flood own w)) u) ∙ e))
-    where
-      flooded : bit (flood own w) u ≡ true → bit own w ≡ true
-      flooded b = unfold flood in ⊎-elim (λ q. q) (λ q. absurd (never b (rw q (bit-of-zero u)))) (bool-cases (bit own w))
 
   pub union-by : (w u v : ℕ) → u < 32 → v < w → bit own v ≡ true → bit (getD rows v 0) u ≡ true → bit (unionBelow w rows own) u ≡ true
   unfolding unionBelow
@@ -61,7 +41,7 @@ module _ (rows : List ℕ) (own : ℕ) where
       (eq-or-lt-of-le (le-of-suc-le-suc l))
     where
       here : bit own w ≡ true → bit (getD rows w 0) u ≡ true → bit (bitAnd (getD rows w 0) (flood own w)) u ≡ true
-      here o e = unfold flood in bit-and (getD rows w 0) (flood own w) u ∙ and-by _ _ e (rw o (bit-not 32 0 u (omega arith) h ∙ rw (bit-of-zero u)))
+      here o e = bit-and (getD rows w 0) (flood own w) u ∙ and-by _ _ e (flood-by own w u h o)
 
 -- ---- the same by a mask for each row
 
@@ -109,7 +89,7 @@ module _ (rows masks : List ℕ) where
     narrow w (suc n) l h = ⊎-elim (λ q. rw q) (λ q. rw (none (le-of-suc-le-suc q)) (or-zero-r (unionBelow n rows own) ∙ narrow w n (le-of-suc-le-suc q) h)) (eq-or-lt-of-le l)
       where
         none : w ≤ n → bitAnd (getD rows n 0) (flood own n) ≡ 0
-        none l = unfold flood in rw (not-so (bit own n) (λ e. let i = bit-bound w own n h e in absurd (omega arith))) (and-zero-r (getD rows n 0))
+        none l = rw (flood-none own n (bit-high w own n h l)) (and-zero-r (getD rows n 0))
 
     pub masked-all : maskedBelow 24 rows masks ≡ unionOf rows own
     masked-all = masked-union 24 (omega arith)

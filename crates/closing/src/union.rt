@@ -2,15 +2,8 @@
 ghost use mathlib.Core.Path.{_≡_};
 ghost use Prim.Native.Nat.{_≤_, _<_};
 ghost use lib.ListN.{length};
-ghost use Rattle.closing.specs.Union.{flood, Floods, maskedBelow, unionOf};
-
-// All ones where v is a position of x, else 0.
-fn flood(x: u32, v: usize) -> u32
-    requires { ⌜ v < 32 ⌝ }
-    ensures { λ r. ⌜ r ≡ flood x v ⌝ }
-{
-    ((x >> v) & 1) * 4294967295
-}
+ghost use Rattle.closing.specs.Union.{Floods, maskedBelow, unionOf};
+use masks::flood;
 
 // The floods of the 24 positions of own.
 pub fn floods(own: u32) -> [u32; 24]

@@ -2,13 +2,13 @@
 use mathlib.Core.Path.{_≡_, refl, sym, ap, _∙_}
 use mathlib.Core.Logic.{⊎-elim}
 use mathlib.Core.Bool.{Bool, true, false, _&&_, and-false}
-use Prim.Native.Nat.{ℕ, _+_, _*_, _^_, _<_}
+use Prim.Native.Nat.{ℕ, _+_, _*_, _^_, _≤_, _<_}
 use native.Mathlib.Nat.{zero-mul, one-mul}
 use native.Mathlib.Numerals.{add-one}
 use native.Mathlib.Omega.{arith}
 use lib.Bits.{bitOr, or-zero-r, or-shifted-r}
 use lib.Dec.{ltb}
-use borrow.Author.Tests.{lt-ltb, ltb-true}
+use borrow.Author.Tests.{lt-ltb, ltb-true, ltb-false}
 use Rattle.masks.specs.Tests.{bool-cases}
 use Rattle.masks.specs.Bits.{bit, bit-of-zero, bit-ext, bit-ext-below, bit-high}
 use Rattle.masks.specs.Masks.{maskOf, bit-maskOf, maskOf-in, maskOf-lt, maskOf-suc, digit}
@@ -37,6 +37,13 @@ module _ (p : ℕ → Bool) (k : ℕ) where
 -- no position passes
 pub mask-false : (k : ℕ) (p : ℕ → Bool) → ((v : ℕ) → p v ≡ false) → maskOf k p ≡ 0
 mask-false k p h = bit-ext _ 0 (λ v. bit-maskOf k p v ∙ rw (h v) (and-false (ltb v k)) ∙ sym (bit-of-zero v))
+
+-- no position from k on passes
+pub mask-short : (k n : ℕ) (p : ℕ → Bool) → k ≤ n → ((v : ℕ) → k ≤ v → p v ≡ false) → maskOf n p ≡ maskOf k p
+mask-short k n p l h = bit-ext _ _ (λ v. bit-maskOf n p v ∙ same v ∙ sym (bit-maskOf k p v))
+  where
+    same : (v : ℕ) → (ltb v n && p v) ≡ (ltb v k && p v)
+    same v = ⊎-elim (λ q. let i = ltb-true v k q in rw (q, lt-ltb v n (omega arith))) (λ q. rw (h v (ltb-false v k q)) (and-false (ltb v n) ∙ sym (and-false (ltb v k)))) (bool-cases (ltb v k))
 
 -- two tests that agree below k
 pub mask-cong : (k : ℕ) (p q : ℕ → Bool) → ((v : ℕ) → v < k → p v ≡ q v) → maskOf k p ≡ maskOf k q

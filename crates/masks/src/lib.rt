@@ -3,6 +3,7 @@ ghost use mathlib.Core.Path.{_≡_};
 ghost use Prim.Native.Nat.{_^_, _<_, _≤_};
 ghost use Rattle.masks.specs.Bits.{bit};
 ghost use Rattle.masks.specs.Words.{clear, Lowest};
+ghost use Rattle.masks.specs.Floods.{flood};
 ghost use Rattle.masks.specs.Sets.{has};
 ghost use Rattle.masks.specs.Settings.{cut, lose, empty, someEmpty};
 
@@ -36,6 +37,14 @@ pub fn lowest_bit(x: u32) -> usize
     ensures { λ r. ⌜ Lowest x r × (r < 32) ⌝ }
 {
     u32::trailing_zeros(x) as usize
+}
+
+// All ones where v is a position of x, else 0.
+pub fn flood(x: u32, v: usize) -> u32
+    requires { ⌜ v < 32 ⌝ }
+    ensures { λ r. ⌜ r ≡ flood x v ⌝ }
+{
+    ((x >> v) & 1) * 4294967295
 }
 
 // A set of settings: the mask of each of 24 fields (01: "a set of settings has, for each field, a mask").

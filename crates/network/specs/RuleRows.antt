@@ -12,7 +12,7 @@ use lib.Seq.{getD-set-same, getD-set-other}
 use borrow.Author.Tests.{lt-ltb, ltb-true, ltb-false, eq-eqb}
 use Rattle.masks.specs.Tests.{bool-cases}
 use Rattle.masks.specs.Bits.{bit}
-use Rattle.masks.specs.Masks.{maskOf, bit-maskOf}
+use Rattle.masks.specs.Masks.{maskOf, bit-maskOf, maskOf-lt}
 use Rattle.masks.specs.Loops.{mask-cong, mask-self}
 use Rattle.masks.specs.Sets.{getD-zeros}
 use Rattle.sheet.specs.Pick.{pick, pick-true}
@@ -21,7 +21,7 @@ use Rattle.accepted.specs.Facts.{facts}
 use Rattle.network.specs.Slots.{slot, slot-bound}
 use Rattle.network.specs.Tables.{tableWords, bothTables, forwardOf, turnedOf, tables-room}
 use Rattle.network.specs.Stored.{Stored, wordsOf, wordsOf-at, stored-forward, stored-turned, stored-then, stored-before, stored-cong, table-lengths}
-use Rattle.network.specs.Turned.{Columns}
+use Rattle.network.specs.Turned.{Rows, Columns}
 use Rattle.network.specs.Built.{rowOf, columnOf, slotOf}
 use Rattle.network.specs.RuleFields.{RuleFields, counts-few, row-past, row-is}
 
@@ -64,6 +64,14 @@ module _ (xs : List ℕ) (r place i j atI atJ : ℕ) (g : RuleFields xs r place 
     row-at : (v : ℕ) → getD w v 0 ≡ rowOf xs r v
     row-at v = ⊎-elim (λ q. p .done v (ltb-true v (countOf xs i) q))
         (λ q. let l = ltb-false v (countOf xs i) q in p .rest v l ∙ row-past xs r place i j atI atJ g v l) (bool-cases (ltb v (countOf xs i)))
+
+    pub rows-rows : Rows w (countOf xs i) (countOf xs j)
+    rows-rows = record {
+      few = counts-few xs r place i j atI atJ g .0;
+      narrow = counts-few xs r place i j atI atJ g .1;
+      past = p .rest;
+      low = λ v. rw (row-at v, g .second) (maskOf-lt (countOf xs (secondOf xs r)) _);
+    }
 
     column-at : (T : List ℕ) → Columns w (countOf xs i) T → (u : ℕ) → u < 24 → getD T u 0 ≡ columnOf xs r u
     column-at T c u h = c .at u h ∙ rw (g .first) (mask-cong (countOf xs (firstOf xs r)) _ _ (λ v l.

@@ -83,8 +83,9 @@ fn fill_rule(numbers: &[u32], r: usize, place: usize, i: usize, j: usize, rows: 
     let at_i = parts::field_start(numbers, i);
     let at_j = parts::field_start(numbers, j);
     let n = parts::count_at(numbers, i, at_i);
+    let wide = parts::count_at(numbers, j, at_j);
     let forward = rows_of_rule(numbers, r, place, i, j, at_i, at_j, n);
-    let turned = turn(&forward, n);
+    let turned = turn(&forward, n, wide);
     let base = slot(i, j) * 24;
     store(rows, base, &forward);
     store(rows, TABLE_WORDS + base, &turned);

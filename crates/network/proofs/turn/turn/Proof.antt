@@ -1,52 +1,20 @@
-use mathlib.Core.Path.{_≡_, refl, _∙_}
-use Prim.Native.Nat.{_-_, _≤_}
 use native.Mathlib.Omega.{arith}
+use Rattle.network.specs.Turned.{square-columns}
 use borrow.Author.Needs.{needs}
-use Rattle.network.specs.Turned.{Columns, columns-start, columns-next}
 use Rattle.network.proofs.turn.turn.Statement.{statement}
 use Rattle.network.proofs.turn.turn.Tie as tie
 
-abbrev Inv-loop : tie.InvT-loop
-Inv-loop rows n turned₀ v₀ turned v = (v ≤ n) × Columns rows v turned
+turn-square-requires : tie.Need-turn-square-requires
+turn-square-requires c κs = search needs
 
-abbrev μ-loop : tie.MeasureT-loop
-μ-loop rows n turned₀ v₀ turned v = n - v
+returns : tie.Need-returns
+returns c = square-columns _ _ _ _ _ (c .before .before .if1 .taken) (c .before .if2 .taken) (c .before .before .before .pre) (c .turn-square .ensures)
 
-loop-holds : tie.Need-loop-holds Inv-loop μ-loop
-loop-holds c = (search needs, columns-start _)
+turn-square-requires-2 : tie.Need-turn-square-requires-2
+turn-square-requires-2 c κs = search needs
 
-mul-row : tie.Need-mul-row Inv-loop μ-loop
-mul-row c = search needs
-
-element-copy-out-row : tie.Need-element-copy-out-row Inv-loop μ-loop
-element-copy-out-row c = search needs
-
-turn-row-requires : tie.Need-turn-row-requires Inv-loop μ-loop
-turn-row-requires c κs = (search needs, c .before .before .before .loop .inv .1 .sized)
-
-add-v : tie.Need-add-v Inv-loop μ-loop
-add-v c = search needs
-
-loop-less : tie.Need-loop-less Inv-loop μ-loop
-loop-less c = search needs
-
-loop-again : tie.Need-loop-again Inv-loop μ-loop
-loop-again c = (search needs, columns-next _ _ _ _ _ refl (c .before .before .before .before .loop .inv .1) (c .turn-row .ensures))
-
-returns : tie.Need-returns Inv-loop μ-loop
-returns c = let e : c .before .loop .v ≡ c .before .before .args .n = search needs in rw e at (c .before .loop .inv .1)
+returns-2 : tie.Need-returns-2
+returns-2 c = square-columns _ _ _ _ _ (c .before .before .pre .few) (c .before .before .pre .narrow) (c .before .before .pre) (c .turn-square2 .ensures)
 
 pub turn-spec : {M : Type 1} → statement M
-turn-spec =
-    tie.close
-    (tie.spec
-    Inv-loop
-    μ-loop
-    loop-holds
-    mul-row
-    element-copy-out-row
-    turn-row-requires
-    add-v
-    loop-less
-    loop-again
-    returns)
+turn-spec = tie.close (tie.spec turn-square-requires returns turn-square-requires-2 returns-2)

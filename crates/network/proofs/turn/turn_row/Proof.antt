@@ -1,4 +1,4 @@
-use mathlib.Core.Path.{_≡_, _∙_}
+use mathlib.Core.Path.{_≡_, sym, _∙_}
 use Prim.Native.Nat.{_-_, _≤_}
 use native.Mathlib.Omega.{arith}
 use borrow.Author.Needs.{needs}
@@ -7,34 +7,28 @@ use Rattle.network.proofs.turn.turn_row.Statement.{statement}
 use Rattle.network.proofs.turn.turn_row.Tie as tie
 
 abbrev Inv-loop : tie.InvT-loop
-Inv-loop row v turned₀ u₀ turned u = (u ≤ 24) × Turning row v turned₀ u turned
+Inv-loop row v side turned₀ own u₀ turned u = (u ≤ side) × Turning row v turned₀ u turned
 
 abbrev μ-loop : tie.MeasureT-loop
-μ-loop row v turned₀ u₀ turned u = 24 - u
+μ-loop row v side turned₀ own u₀ turned u = side - u
+
+one-bit-requires : tie.Need-one-bit-requires Inv-loop μ-loop
+one-bit-requires c κs = search needs
 
 loop-holds : tie.Need-loop-holds Inv-loop μ-loop
 loop-holds c = (search needs, turning-start _ _ _)
 
-cast-b : tie.Need-cast-b Inv-loop μ-loop
-cast-b c = search needs
-
-shr-b : tie.Need-shr-b Inv-loop μ-loop
-shr-b c = search needs
-
-cast-turned : tie.Need-cast-turned Inv-loop μ-loop
-cast-turned c = let z = c .before .before .pre .0 in search needs
-
-shl-turned : tie.Need-shl-turned Inv-loop μ-loop
-shl-turned c = let z = c .before .before .pre .0 in search needs
+flood-requires : tie.Need-flood-requires Inv-loop μ-loop
+flood-requires c κs = search needs
 
 mul-turned : tie.Need-mul-turned Inv-loop μ-loop
-mul-turned c = let z = c .before .loop .inv .1 .sized in let y = c .before .before .pre .1 in search needs
+mul-turned c = search needs
 
 element-copy-out-turned : tie.Need-element-copy-out-turned Inv-loop μ-loop
-element-copy-out-turned c = let z = c .before .loop .inv .1 .sized in let y = c .before .before .pre .1 in search needs
+element-copy-out-turned c = search needs
 
 element-write-turned : tie.Need-element-write-turned Inv-loop μ-loop
-element-write-turned c = let z = c .before .before .loop .inv .1 .sized in let y = c .before .before .before .pre .1 in search needs
+element-write-turned c = search needs
 
 add-u : tie.Need-add-u Inv-loop μ-loop
 add-u c = search needs
@@ -43,10 +37,10 @@ loop-less : tie.Need-loop-less Inv-loop μ-loop
 loop-less c = search needs
 
 loop-again : tie.Need-loop-again Inv-loop μ-loop
-loop-again c = (search needs, turning-next _ _ _ _ _ (let z = c .before .before .before .pre .0 in omega arith) (let z = c .before .before .loop .inv .1 .sized in let y = c .before .before .before .pre .1 in omega arith) (c .before .before .loop .inv .1))
+loop-again c = (search needs, rw (c .before .flood .ensures, c .before .before .before .before .one-bit .ensures) (turning-next _ _ _ _ _ (let z = c .before .before .before .before .before .pre .0 in omega arith) (let z = c .before .before .before .loop .inv .1 .sized in let y = c .before .before .before .before .before .pre .2 in let s = c .before .before .before .before .before .pre .1 in omega arith) (c .before .before .before .loop .inv .1)))
 
 returns : tie.Need-returns Inv-loop μ-loop
-returns c = let e : c .before .loop .u ≡ 24 = omega arith in rw e at (c .before .loop .inv .1)
+returns c = let e : c .before .loop .u ≡ c .before .before .before .args .side = search needs in rw e at (c .before .loop .inv .1)
 
 pub turn-row-spec : {M : Type 1} → statement M
 turn-row-spec =
@@ -54,11 +48,9 @@ turn-row-spec =
     (tie.spec
     Inv-loop
     μ-loop
+    one-bit-requires
     loop-holds
-    cast-b
-    shr-b
-    cast-turned
-    shl-turned
+    flood-requires
     mul-turned
     element-copy-out-turned
     element-write-turned
