@@ -7,13 +7,13 @@ use Prim.Native.Nat.{ℕ, _≤_}
 use native.Mathlib.Omega.{arith}
 use lib.Dec.{leb}
 use borrow.Author.Tests.{leb-true}
-use Rattle.sheet.specs.Pick.{pick}
-use Rattle.sheet.specs.Grammar.{ranged, ordered, upTo, step, start, noCounts}
+use Rattle.masks.specs.Pick.{pick}
+use Rattle.grammar.specs.Grammar.{ranged, ordered, upTo, step, start, noCounts}
+use Rattle.grammar.specs.declared.grammar.Expected.{Expected}
+use Rattle.grammar.specs.declared.grammar.State.{State}
+use Rattle.grammar.specs.declared.grammar.State.the-variants.{Wants, Complete, OutOfRange, OutOfOrder}
 use Rattle.sheet.specs.Judge.{Item, num, cut, ill, meets, judge, refusal, numbers, ofNumbers, ofBytes, Accepted, AcceptedBytes}
 use Rattle.sheet.specs.Turns.{stays}
-use Rattle.sheet.specs.declared.grammar.Expected.{Expected}
-use Rattle.sheet.specs.declared.grammar.State.{State}
-use Rattle.sheet.specs.declared.grammar.State.the-variants.{Wants, Complete, OutOfRange, OutOfOrder}
 
 -- ---- a test on the way to acceptance
 

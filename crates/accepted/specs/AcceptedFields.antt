@@ -9,14 +9,14 @@ use lib.Dec.{ltb, leb, eqb}
 use lib.ListN.{length, getD, set, length-set}
 use lib.Seq.{getD-set-same, getD-set-other}
 use borrow.Author.Tests.{leb-true, ltb-true, ltb-false, eqb-true, eqb-false}
-use Rattle.sheet.specs.Pick.{pick}
-use Rattle.sheet.specs.Limits.{mostSettings, largestSetting}
-use Rattle.sheet.specs.Grammar.{step, afterField, afterSetting}
+use Rattle.masks.specs.Pick.{pick}
+use Rattle.grammar.specs.Limits.{mostSettings, largestSetting}
+use Rattle.grammar.specs.Grammar.{step, afterField, afterSetting}
 use Rattle.sheet.specs.Judge.{judge, ofNumbers}
 use Rattle.accepted.specs.Sheets.{fieldsNumbers, Rises, rises-none, rises-one, FieldRight}
 use Rattle.accepted.specs.Accept.{ranged-in, ordered-in, pick-in, upTo-le}
-use Rattle.sheet.specs.declared.grammar.Expected.the-variants.{Count, Setting, Reach}
-use Rattle.sheet.specs.declared.grammar.State.the-variants.{Wants}
+use Rattle.grammar.specs.declared.grammar.Expected.the-variants.{Count, Setting, Reach}
+use Rattle.grammar.specs.declared.grammar.State.the-variants.{Wants}
 
 pub record SettingsIn (f left floor n : ℕ) (ds ys : List ℕ) : Type 0 where
   pub settings : List ℕ

@@ -8,13 +8,13 @@ use native.Mathlib.Omega.{arith}
 use lib.Dec.{ltb, leb, eqb}
 use lib.ListN.{length, getD}
 use borrow.Author.Tests.{leb-true, ltb-true, eqb-true, eqb-false}
-use Rattle.sheet.specs.Limits.{largestSetting, lastKind}
-use Rattle.sheet.specs.Grammar.{step, afterRule, afterMask, afterKind, key, rising}
+use Rattle.grammar.specs.Limits.{largestSetting, lastKind}
+use Rattle.grammar.specs.Grammar.{step, afterRule, afterMask, afterKind, key, rising}
 use Rattle.sheet.specs.Judge.{judge, ofNumbers}
 use Rattle.accepted.specs.Sheets.{Rule, rulesNumbers, Below, below-none, below-one, RuleRight, Ruled, ruled-none, ruled-one}
 use Rattle.accepted.specs.Accept.{ranged-in, ordered-in, pick-in, both}
-use Rattle.sheet.specs.declared.grammar.Expected.the-variants.{First, Mask, Amount}
-use Rattle.sheet.specs.declared.grammar.State.the-variants.{Wants, Complete}
+use Rattle.grammar.specs.declared.grammar.Expected.the-variants.{First, Mask, Amount}
+use Rattle.grammar.specs.declared.grammar.State.the-variants.{Wants, Complete}
 
 abbrev pub dOf : List ℕ → ℕ → ℕ
 dOf ds k = getD ds k 0

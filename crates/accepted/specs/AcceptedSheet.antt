@@ -8,14 +8,14 @@ use native.Mathlib.Omega.{arith}
 use lib.Dec.{ltb, leb}
 use lib.ListN.{length, getD}
 use borrow.Author.Tests.{lt-ltb, leb-true}
-use Rattle.sheet.specs.Pick.{pick-true}
-use Rattle.sheet.specs.Limits.{mostFields, mostReach, mostRules}
-use Rattle.sheet.specs.Grammar.{step, noCounts, afterRule}
+use Rattle.masks.specs.Pick.{pick-true}
+use Rattle.grammar.specs.Limits.{mostFields, mostReach, mostRules}
+use Rattle.grammar.specs.Grammar.{step, noCounts, afterRule}
 use Rattle.sheet.specs.Judge.{judge, ofNumbers, Accepted}
 use Rattle.accepted.specs.Sheets.{Rule, fieldsNumbers, sheetNumbers, ValuesRight, Ruled, ruled-none, ruled-one, IsSheet}
 use Rattle.accepted.specs.Accept.{ranged-in, upTo-le}
-use Rattle.sheet.specs.declared.grammar.Expected.the-variants.{Count, Reach}
-use Rattle.sheet.specs.declared.grammar.State.the-variants.{Wants}
+use Rattle.grammar.specs.declared.grammar.Expected.the-variants.{Count, Reach}
+use Rattle.grammar.specs.declared.grammar.State.the-variants.{Wants}
 use Rattle.accepted.specs.AcceptedFields.{FieldsIn, fields-in}
 use Rattle.accepted.specs.AcceptedRules.{dOf, rules-in}
 

@@ -2,10 +2,10 @@
 use mathlib.Core.Path.{_≡_, refl}
 use mathlib.Core.List.{List, [], _∷_}
 use Prim.Native.Nat.{ℕ, _+_}
-use Rattle.sheet.specs.Pick.{pick}
-use Rattle.sheet.specs.Limits.{largestSetting}
-use Rattle.sheet.specs.Groups.{groups, numberAt, encode, encodeIn}
-use Rattle.sheet.specs.Grammar.{step}
+use Rattle.masks.specs.Pick.{pick}
+use Rattle.groups.specs.Groups.{groups, numberAt, encode, encodeIn}
+use Rattle.grammar.specs.Limits.{largestSetting}
+use Rattle.grammar.specs.Grammar.{step}
 use Rattle.sheet.specs.Judge.{judge, refusal, numbers, items, ofBytes, ofNumbers, bytesOf}
 
 -- sheet D, in bytes and in numbers

@@ -5,8 +5,8 @@ use mathlib.Core.List.{List, []}
 use Prim.Native.Nat.{ℕ, zero, suc, _+_, _^_, _<_, _≤_}
 use native.Mathlib.Omega.{arith}
 use lib.ListN.{length, getD}
-use Rattle.sheet.specs.Limits.{mostFields, mostSettings, largestSetting, mostReach, mostRules, lastKind}
-use Rattle.sheet.specs.Grammar.{key}
+use Rattle.grammar.specs.Limits.{mostFields, mostSettings, largestSetting, mostReach, mostRules, lastKind}
+use Rattle.grammar.specs.Grammar.{key}
 use Rattle.sheet.specs.Judge.{Accepted}
 use Rattle.accepted.specs.Sheets.{Rule, Sheet, Rises, rises-none, rises-one, Below, below-none, below-one, RuleRight, Ruled, ruled-none, ruled-one, counted, IsSheet}
 use Rattle.accepted.specs.AcceptedSheet.{sheet-in}

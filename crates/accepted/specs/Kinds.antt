@@ -3,7 +3,7 @@ use mathlib.Core.Bool.{Bool, false}
 use Prim.Native.Nat.{ℕ, _+_, _-_}
 use lib.Dec.{leb, eqb}
 use Rattle.masks.specs.Bits.{bit}
-use Rattle.sheet.specs.Pick.{pick}
+use Rattle.masks.specs.Pick.{pick}
 
 -- how far p and q are apart: one of the two differences is 0
 abbrev pub distance : ℕ → ℕ → ℕ

@@ -7,7 +7,7 @@ use Prim.Native.Nat.{ℕ, zero, suc, _<_}
 use native.Mathlib.Omega.{arith}
 use lib.Dec.{ltb}
 use borrow.Author.Tests.{ltb-true, ltb-false}
-use Rattle.sheet.specs.Grammar.{key}
+use Rattle.grammar.specs.Grammar.{key}
 use Rattle.accepted.specs.Parts.{fieldsOf, countOf, settingOf, rulesOf, firstOf, secondOf}
 use Rattle.accepted.specs.Facts.{Facts}
 

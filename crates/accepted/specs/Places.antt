@@ -8,7 +8,7 @@ use native.Mathlib.Omega.{arith}
 use lib.ListN.{length, getD, drop, length-append, length-drop, List·getD-append}
 use lib.Seq.{drop-cons, drop-drop, getD-drop, drop-append-seam, drop-length}
 use borrow.Author.Tests.{eq-eqb, ne-eqb}
-use Rattle.sheet.specs.Pick.{pick-true, pick-false}
+use Rattle.masks.specs.Pick.{pick-true, pick-false}
 use Rattle.accepted.specs.Sheets.{Rule, Sheet, fieldsNumbers, rulesNumbers, sheetNumbers, RuleRight, Ruled, ruled-none, ruled-one, counted, IsSheet}
 use Rattle.accepted.specs.Parts.{fieldStart, fieldsOf, countOf, settingOf, reachOf, rulesOf, valuesAt, ruleStart, firstOf, secondOf, kindOf, valueOf}
 

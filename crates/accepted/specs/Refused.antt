@@ -2,11 +2,11 @@
 use mathlib.Core.List.{List, [], _∷_}
 use Prim.Native.Nat.{ℕ, _≤_}
 use native.Mathlib.Omega.{arith}
-use Rattle.sheet.specs.Grammar.{step, start, noCounts, atEnd}
+use Rattle.grammar.specs.Grammar.{step, start, noCounts, atEnd}
+use Rattle.grammar.specs.declared.grammar.Expected.{Expected}
+use Rattle.grammar.specs.declared.grammar.State.{State}
+use Rattle.grammar.specs.declared.grammar.State.the-variants.{Wants, Complete, OutOfRange, OutOfOrder}
 use Rattle.sheet.specs.Judge.{Item, num, cut, ill, meets, judge, refusal}
-use Rattle.sheet.specs.declared.grammar.Expected.{Expected}
-use Rattle.sheet.specs.declared.grammar.State.{State}
-use Rattle.sheet.specs.declared.grammar.State.the-variants.{Wants, Complete, OutOfRange, OutOfOrder}
 
 meets-few : (st : State) (f : ℕ → Expected → ℕ) → ((n : ℕ) (e : Expected) → f n e ≤ 5) → meets st f ≤ 5
 meets-few (Wants n e) f h = h n e

@@ -10,16 +10,16 @@ use lib.Dec.{ltb, eqb}
 use lib.ListN.{length, getD, set, length-set}
 use lib.Seq.{getD-set-same, getD-set-other}
 use borrow.Author.Tests.{lt-ltb, le-ltb, le-leb, eq-eqb, ne-eqb}
-use Rattle.sheet.specs.Pick.{pick, pick-true, pick-false}
-use Rattle.sheet.specs.Limits.{mostFields, mostSettings, largestSetting, mostReach, mostRules, lastKind}
-use Rattle.sheet.specs.Grammar.{step, noCounts, upTo, afterField, afterRule, afterKind, key}
+use Rattle.masks.specs.Pick.{pick, pick-true, pick-false}
+use Rattle.grammar.specs.Limits.{mostFields, mostSettings, largestSetting, mostReach, mostRules, lastKind}
+use Rattle.grammar.specs.Grammar.{step, noCounts, upTo, afterField, afterRule, afterKind, key}
 use Rattle.sheet.specs.Judge.{Item, judge, ofNumbers, Accepted}
 use Rattle.accepted.specs.Sheets.{Rule, Sheet, fieldsNumbers, rulesNumbers, sheetNumbers, Rises, rises-none, rises-one, Below, below-none, below-one, FieldRight, ValuesRight, RuleRight, Ruled, ruled-none, ruled-one, Right, counted}
 use Rattle.accepted.specs.AcceptedRules.{dOf}
 use Rattle.accepted.specs.AcceptedSheet.{ruled-same}
-use Rattle.sheet.specs.declared.grammar.Expected.the-variants.{Count, Setting, Reach, First, Mask, Amount}
-use Rattle.sheet.specs.declared.grammar.State.{State}
-use Rattle.sheet.specs.declared.grammar.State.the-variants.{Wants, Complete}
+use Rattle.grammar.specs.declared.grammar.Expected.the-variants.{Count, Setting, Reach, First, Mask, Amount}
+use Rattle.grammar.specs.declared.grammar.State.{State}
+use Rattle.grammar.specs.declared.grammar.State.the-variants.{Wants, Complete}
 
 -- a place that a test leads to
 to-true : (t : Bool) (a b : State) (ds : List ℕ) (is : List Item) → t ≡ true → judge a ds is ≡ 0 → judge (pick t a b) ds is ≡ 0

@@ -10,12 +10,12 @@ use lib.Dec.{ltb, eqb}
 use lib.ListN.{length, drop, getD, length-append, drop-of-length-le}
 use lib.Seq.{drop-append-seam, getD-drop, drop-drop}
 use borrow.Author.Tests.{lt-ltb, le-ltb, ltb-true, ltb-false, eqb-true, eqb-false}
-use Rattle.sheet.specs.Pick.{pick-true, pick-false}
-use Rattle.sheet.specs.Groups.{groups, numberAt, encodeIn, encode, encode-some, encodeIn-last, encodeIn-suc, groups-number, groups-nothing, groups-empty}
+use Rattle.masks.specs.Pick.{pick-true, pick-false}
+use Rattle.groups.specs.Groups.{groups, numberAt, encodeIn, encode, encode-some, encodeIn-last, encodeIn-suc, groups-number, groups-nothing, groups-empty}
+use Rattle.groups.specs.declared.groups.Number.{Number}
+use Rattle.groups.specs.declared.groups.Number.the-variants.{Value, Ended, IllFormed}
 use Rattle.sheet.specs.Judge.{Item, num, itemsFrom, ofBytes, ofNumbers, bytesOf}
 use Rattle.sheet.specs.Items.{from-num, from-end, from-cut, from-ill, from-some}
-use Rattle.sheet.specs.declared.groups.Number.{Number}
-use Rattle.sheet.specs.declared.groups.Number.the-variants.{Value, Ended, IllFormed}
 
 -- w times a number is w times its lowest group and 128 w times the others
 split : (w n : ℕ) → w * (n % 128) + w * 128 * (n / 128) ≡ w * n

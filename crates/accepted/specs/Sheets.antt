@@ -4,8 +4,8 @@ use mathlib.Core.Logic.{_⊎_}
 use mathlib.Core.List.{List, [], _∷_, _++_}
 use Prim.Native.Nat.{ℕ, _+_, _^_, _<_, _≤_}
 use lib.ListN.{length, getD}
-use Rattle.sheet.specs.Limits.{mostFields, mostSettings, largestSetting, mostReach, mostRules, lastKind}
-use Rattle.sheet.specs.Grammar.{key}
+use Rattle.grammar.specs.Limits.{mostFields, mostSettings, largestSetting, mostReach, mostRules, lastKind}
+use Rattle.grammar.specs.Grammar.{key}
 
 -- a rule: its fields i and j, its kind, and its numbers: masks, or c
 pub record Rule : Type 0 where

@@ -5,7 +5,7 @@ use mathlib.Core.List.{List, _++_}
 use Prim.Native.Nat.{ℕ}
 use lib.Dec.{eqb}
 use lib.ListN.{length, drop}
-use Rattle.sheet.specs.Pick.{pick}
+use Rattle.masks.specs.Pick.{pick}
 use Rattle.sheet.specs.Judge.{numbers, ofBytes}
 use Rattle.ledger.specs.declared.Call.{Call}
 use Rattle.ledger.specs.Ledger.{Given, offersOf, step, tooShort, number}

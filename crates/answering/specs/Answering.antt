@@ -10,7 +10,7 @@ use lib.ListN.{length, take, drop}
 use lib.Seq.{take-at}
 use borrow.Author.Tests.{eq-eqb, ne-eqb, eqb-true, ltb-false}
 use Rattle.masks.specs.Tests.{never, bool-cases, and-l, and-r}
-use Rattle.sheet.specs.Pick.{pick, pick-true, pick-false}
+use Rattle.masks.specs.Pick.{pick, pick-true, pick-false}
 use Rattle.sheet.specs.Judge.{refusal, numbers, ofBytes, Accepted, Gives, Outcome, giving, refusing, reading}
 use Rattle.sheet.specs.declared.answer.Answer.{Answer as Read}
 use Rattle.accepted.specs.Accept.{bytes-accepted}

@@ -9,7 +9,7 @@ use lib.Dec.{eqb, ltb}
 use lib.ListN.{length}
 use borrow.Author.Tests.{eqb-true, eqb-false, eq-eqb, ne-eqb, lt-ltb, le-ltb}
 use Rattle.masks.specs.Tests.{never, bool-cases, and-l, and-r}
-use Rattle.sheet.specs.Pick.{pick}
+use Rattle.masks.specs.Pick.{pick}
 use Rattle.sheet.specs.Judge.{Accepted}
 use Rattle.accepted.specs.Parts.{reachOf}
 use Rattle.ledger.specs.declared.Call.{Call}

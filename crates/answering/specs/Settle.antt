@@ -17,9 +17,9 @@ use Rattle.masks.specs.Bits.{bit, bit-of-zero}
 use Rattle.masks.specs.Masks.{maskOf, maskOf-lt}
 use Rattle.masks.specs.Sets.{has, pad, length-pad, getD-pad}
 use Rattle.masks.specs.Settings.{empty, someEmpty}
+use Rattle.masks.specs.Pick.{pick, pick-true, pick-false}
 use Rattle.consistency.specs.Offers.{offers, offers-is, wipedOut}
 use Rattle.consistency.specs.Padding.{offers-pad}
-use Rattle.sheet.specs.Pick.{pick, pick-true, pick-false}
 use Rattle.sheet.specs.Judge.{Accepted}
 use Rattle.accepted.specs.Parts.{fieldsOf, countOf, reachOf}
 use Rattle.accepted.specs.Facts.{facts}

@@ -11,20 +11,20 @@ use lib.ListN.{length, take, drop, getD, set, replicate}
 use lib.Seq.{take-take, take-all, length-take-le}
 use borrow.Author.Tests.{ltb-true, ltb-false, leb-true, eqb-false, ne-eqb}
 use Rattle.masks.specs.Tests.{and-l, and-r}
-use Rattle.sheet.specs.Pick.{pick}
-use Rattle.sheet.specs.Refusals.{surplus, outOfRange, outOfOrder}
-use Rattle.sheet.specs.Groups.{groups, numberAt, lastGroup, groups-number, groups-nothing, groups-empty}
+use Rattle.masks.specs.Pick.{pick}
+use Rattle.grammar.specs.Refusals.{surplus, outOfRange, outOfOrder}
+use Rattle.groups.specs.Groups.{groups, numberAt, lastGroup, groups-number, groups-nothing, groups-empty}
 use Rattle.sheet.specs.Judge.{Item, num, cut, ill, meets, judge, refusal, itemsFrom, ofBytes}
 use Rattle.sheet.specs.Items.{from-num, from-cut, from-ill}
-use Rattle.sheet.specs.Grammar.{step, start, noCounts, upTo, ranged, ordered, afterField, afterRule, key}
+use Rattle.grammar.specs.Grammar.{step, start, noCounts, upTo, ranged, ordered, afterField, afterRule, key}
 use Rattle.accepted.specs.Parts.{fieldsOf}
 use Rattle.accepted.specs.Theorems.{most-sheet-bytes}
-use Rattle.sheet.specs.declared.groups.Number.{Number}
-use Rattle.sheet.specs.declared.groups.Number.the-variants.{Value, Ended, IllFormed}
-use Rattle.sheet.specs.declared.grammar.Expected.{Expected}
-use Rattle.sheet.specs.declared.grammar.Expected.the-variants.{Fields, Count, Setting, Reach, Rules, First, Second, Kind, Mask, Amount}
-use Rattle.sheet.specs.declared.grammar.State.{State}
-use Rattle.sheet.specs.declared.grammar.State.the-variants.{Wants, Complete, OutOfRange, OutOfOrder}
+use Rattle.groups.specs.declared.groups.Number.{Number}
+use Rattle.groups.specs.declared.groups.Number.the-variants.{Value, Ended, IllFormed}
+use Rattle.grammar.specs.declared.grammar.Expected.{Expected}
+use Rattle.grammar.specs.declared.grammar.Expected.the-variants.{Fields, Count, Setting, Reach, Rules, First, Second, Kind, Mask, Amount}
+use Rattle.grammar.specs.declared.grammar.State.{State}
+use Rattle.grammar.specs.declared.grammar.State.the-variants.{Wants, Complete, OutOfRange, OutOfOrder}
 use Rattle.answering.specs.Answer.{Answer}
 use Rattle.belaykeel_offers.specs.Opening.{empty, opening, opening-refused, listOf}
 

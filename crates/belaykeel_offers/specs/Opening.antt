@@ -8,8 +8,8 @@ use lib.Dec.{eqb, ltb}
 use lib.ListN.{length, take, replicate, length-append}
 use lib.Seq.{take-at}
 use borrow.Author.Tests.{eq-eqb, ne-eqb, eqb-true, le-ltb}
-use Rattle.sheet.specs.Pick.{pick, pick-true, pick-false}
-use Rattle.sheet.specs.Limits.{mostNumbers}
+use Rattle.masks.specs.Pick.{pick, pick-true, pick-false}
+use Rattle.grammar.specs.Limits.{mostNumbers}
 use Rattle.sheet.specs.Judge.{Accepted, Gives, Outcome, refusal, numbers, ofBytes, reading, giving, refusing, answered}
 use Rattle.accepted.specs.Parts.{fieldsOf}
 use Rattle.accepted.specs.Accept.{bytes-accepted}

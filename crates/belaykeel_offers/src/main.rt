@@ -3,12 +3,13 @@
 ghost use mathlib.Core.Path.{_≡_};
 ghost use Prim.Native.Nat.{_<_, _≤_};
 ghost use lib.ListN.{length};
-ghost use Rattle.sheet.specs.Limits.{mostNumbers};
+ghost use Rattle.grammar.specs.Limits.{mostNumbers};
 ghost use Rattle.sheet.specs.Judge.{Accepted};
 ghost use Rattle.accepted.specs.Parts.{Field, countOf};
 ghost use Rattle.belaykeel_offers.specs.Opening.{empty, opening, Opened};
 use accepted::parts;
 use calls::open;
+use grammar::limits::MOST_NUMBERS;
 use libc::STDIN_FILENO;
 use libc::STDOUT_FILENO;
 use masks::has_bit;
@@ -16,7 +17,6 @@ use session::Event;
 use session::Session;
 use sheet::answer::Answer;
 use sheet::answer::answered;
-use sheet::limits::MOST_NUMBERS;
 use sheet::reading::read;
 
 // What comes later decides nothing: `later-bytes` in specs/Input.antt.

@@ -8,14 +8,14 @@ use Rattle.masks.specs.Bits.{bit}
 use Rattle.masks.specs.Masks.{maskOf, keepIn, keepBits, someIn, someBit, countIn, countBits}
 use Rattle.masks.specs.Sets.{only, count, same}
 use Rattle.masks.specs.Settings.{cut, empty, someEmpty}
+use Rattle.masks.specs.Pick.{pick}
 use Rattle.consistency.specs.Largest.{sweep, sweeps, largest}
 use Rattle.consistency.specs.Problem.{Problem, allFields}
 use Rattle.consistency.specs.Closing.{partner, supportedBy, supported, closing}
 use Rattle.consistency.specs.Neighbourhood.{widen, fieldsWithin, neighbourhood}
 use Rattle.consistency.specs.Offers.{noneEmpty, passesOver, passes, offers, wipedOut}
-use Rattle.sheet.specs.Pick.{pick}
-use Rattle.sheet.specs.Groups.{groups, numberAt}
-use Rattle.sheet.specs.Grammar.{step as sheetStep}
+use Rattle.groups.specs.Groups.{groups, numberAt}
+use Rattle.grammar.specs.Grammar.{step as sheetStep}
 use Rattle.sheet.specs.Judge.{judge, numbers, items, ofBytes}
 use Rattle.accepted.specs.Parts.{fieldStart, ruleStart}
 use Rattle.accepted.specs.Cases.{D}

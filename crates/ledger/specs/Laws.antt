@@ -10,8 +10,8 @@ use lib.ListN.{length}
 use borrow.Author.Tests.{eqb-true, eq-eqb}
 use Rattle.masks.specs.Tests.{never, not-so, bool-cases, iff-eq, and-l, and-r, and-by, or-l, or-r, or-at, allBelow, _⇒_}
 use Rattle.masks.specs.Masks.{maskOf}
+use Rattle.masks.specs.Pick.{pick, pick-true, pick-false}
 use Rattle.consistency.specs.Offers.{offers, wipedOut}
-use Rattle.sheet.specs.Pick.{pick, pick-true, pick-false}
 use Rattle.sheet.specs.Judge.{numbers, ofBytes}
 use Rattle.accepted.specs.Parts.{fieldsOf, countOf, reachOf}
 use Rattle.network.specs.SheetProblem.{sheetProblem}

@@ -7,9 +7,9 @@ use lib.Dec.{eqb, ltb}
 use lib.ListN.{length}
 use Rattle.masks.specs.Tests.{allBelow, _⇒_}
 use Rattle.masks.specs.Masks.{maskOf}
+use Rattle.masks.specs.Pick.{pick}
 use Rattle.consistency.specs.Neighbourhood.{wholeReach}
 use Rattle.consistency.specs.Offers.{offers, wipedOut}
-use Rattle.sheet.specs.Pick.{pick}
 use Rattle.sheet.specs.Judge.{refusal, numbers, ofBytes}
 use Rattle.accepted.specs.Parts.{fieldsOf, countOf, reachOf}
 use Rattle.network.specs.SheetProblem.{sheetProblem}

@@ -9,7 +9,7 @@ use lib.Dec.{eqb, ltb}
 use lib.ListN.{length}
 use borrow.Author.Tests.{eqb-true, eqb-false, le-ltb}
 use Rattle.masks.specs.Tests.{never, not-so, bool-cases, and-l, and-r, and-by, or-l, or-r, or-at}
-use Rattle.sheet.specs.Pick.{pick, pick-true, pick-false}
+use Rattle.masks.specs.Pick.{pick, pick-true, pick-false}
 use Rattle.sheet.specs.Judge.{refusal, numbers, ofBytes}
 use Rattle.accepted.specs.Refused.{refusal-few}
 use Rattle.ledger.specs.declared.Call.{Call}

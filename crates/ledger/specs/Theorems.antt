@@ -12,9 +12,9 @@ use Rattle.masks.specs.Tests.{never, not-so, bool-cases, iff-eq, and-l, and-r, 
 use Rattle.masks.specs.Bits.{bit}
 use Rattle.masks.specs.Masks.{maskOf, maskOf-in}
 use Rattle.masks.specs.Sets.{has}
+use Rattle.masks.specs.Pick.{pick, pick-true, pick-false}
 use Rattle.consistency.specs.SetUps as setUps
 use Rattle.consistency.specs.Problem.{SetUp}
-use Rattle.sheet.specs.Pick.{pick, pick-true, pick-false}
 use Rattle.sheet.specs.Judge.{refusal, numbers, ofBytes}
 use Rattle.accepted.specs.Parts.{fieldsOf, countOf, reachOf, rulesOf, firstOf, secondOf, ruleAllows}
 use Rattle.network.specs.SheetProblem.{runs, runs-at, pairs, joins, allowsPair, sheetProblem}

@@ -15,7 +15,7 @@ use Rattle.masks.specs.Bits.{bit}
 use Rattle.masks.specs.Masks.{maskOf, bit-maskOf, maskOf-lt}
 use Rattle.masks.specs.Loops.{mask-cong, mask-self}
 use Rattle.masks.specs.Sets.{getD-zeros}
-use Rattle.sheet.specs.Pick.{pick, pick-true}
+use Rattle.masks.specs.Pick.{pick, pick-true}
 use Rattle.accepted.specs.Parts.{countOf, firstOf, secondOf, kindOf, numberOf, valueOf, ruleAllows}
 use Rattle.accepted.specs.Facts.{facts}
 use Rattle.network.specs.Slots.{slot, slot-bound}

@@ -10,12 +10,12 @@ use Rattle.masks.specs.Bits.{bit, bit-of-zero}
 use Rattle.masks.specs.Masks.{maskOf, keepIn, keepBits, someIn, someBit, countIn, countBits}
 use Rattle.masks.specs.Sets.{has, only, count, same, getD-zeros}
 use Rattle.masks.specs.Settings.{cut, empty, someEmpty}
+use Rattle.masks.specs.Pick.{pick}
 use Rattle.consistency.specs.Largest.{sweep, sweeps, largest}
 use Rattle.consistency.specs.Problem.{allFields}
 use Rattle.consistency.specs.Closing.{partner, supportedBy, supported, closing}
 use Rattle.consistency.specs.Neighbourhood.{widen, fieldsWithin, neighbourhood}
 use Rattle.consistency.specs.Offers.{noneEmpty, passesOver, passes, offers, wipedOut}
-use Rattle.sheet.specs.Pick.{pick}
 use Rattle.accepted.specs.Parts.{fieldStart, ruleStart, reachOf}
 use Rattle.accepted.specs.Cases.{numbersOfD, sheet-D}
 use Rattle.network.specs.SheetProblem.{runs, pairs, sheetProblem}

@@ -15,7 +15,7 @@ use Rattle.masks.specs.Bits.{bit}
 use Rattle.masks.specs.Words.{bit-or, bit-one, clear, bit-clear}
 use Rattle.masks.specs.Sets.{has}
 use Rattle.masks.specs.Settings.{lose, length-lose, lose-set}
-use Rattle.sheet.specs.Pick.{pick}
+use Rattle.masks.specs.Pick.{pick}
 use Rattle.ledger.specs.Ledger.{Decision, choice, strike, same}
 use Rattle.session.specs.declared.decisions.Decisions.{Decisions}
 

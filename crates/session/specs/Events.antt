@@ -8,7 +8,7 @@ use lib.Dec.{eqb, leb}
 use lib.ListN.{length, getD, set}
 use lib.Seq.{getD-set-same, getD-set-other}
 use borrow.Author.Tests.{le-leb, lt-leb, ne-eqb}
-use Rattle.sheet.specs.Pick.{pick, pick-true, pick-false}
+use Rattle.masks.specs.Pick.{pick, pick-true, pick-false}
 use Rattle.ledger.specs.Ledger.{Decision, choice, strike, Event, added, withdrawn, unknown}
 use Rattle.session.specs.declared.Event.{Event as EventWords}
 use Rattle.session.specs.declared.decisions.Decisions.{Decisions}

@@ -13,7 +13,7 @@ use borrow.Author.Tests.{ltb-true, ltb-false, lt-ltb, le-ltb, le-leb, lt-leb}
 use Rattle.masks.specs.Tests.{never, not-so, bool-cases, iff-eq, and-l, and-r, and-by, allBelow, allBelow-at, allBelow-by}
 use Rattle.masks.specs.Bits.{bit, bit-of-zero, bit-bound, lt-of-bits}
 use Rattle.masks.specs.Sets.{has}
-use Rattle.sheet.specs.Pick.{pick, pick-true, pick-false}
+use Rattle.masks.specs.Pick.{pick, pick-true, pick-false}
 use Rattle.sheet.specs.Judge.{Accepted}
 use Rattle.accepted.specs.Parts.{fieldsOf, countOf}
 use Rattle.accepted.specs.Facts.{facts}

@@ -8,11 +8,11 @@ use native.Mathlib.Omega.{arith}
 use lib.Dec.{ltb}
 use lib.ListN.{length}
 use borrow.Author.Tests.{lt-ltb, le-ltb, ltb-true, ltb-false}
-use Rattle.sheet.specs.Pick.{pick-true, pick-false}
-use Rattle.sheet.specs.Groups.{numberAt, number-next}
+use Rattle.masks.specs.Pick.{pick-true, pick-false}
+use Rattle.groups.specs.Groups.{numberAt, number-next}
+use Rattle.groups.specs.declared.groups.Number.{Number}
+use Rattle.groups.specs.declared.groups.Number.the-variants.{Value, Ended, IllFormed}
 use Rattle.sheet.specs.Judge.{Item, num, cut, ill, itemsBy, items, itemsFrom}
-use Rattle.sheet.specs.declared.groups.Number.{Number}
-use Rattle.sheet.specs.declared.groups.Number.the-variants.{Value, Ended, IllFormed}
 
 items-end : (most : ℕ) (s : List ℕ) (at : ℕ) → length s ≤ at → items most s at ≡ []
 unfolding items

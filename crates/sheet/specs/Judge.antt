@@ -5,22 +5,28 @@ use mathlib.Core.List.{List, [], _∷_, _++_, map}
 use Prim.Native.Nat.{ℕ, zero, suc, _-_}
 use lib.Dec.{ltb, leb, eqb}
 use lib.ListN.{length, drop}
-use Rattle.sheet.specs.Pick.{pick}
-use Rattle.sheet.specs.Refusals.{outOfRange, outOfOrder, surplus, tooShort}
-use Rattle.sheet.specs.Groups.{numberAt, numberRefusal, encode}
-use Rattle.sheet.specs.Grammar.{step, start, noCounts, atEnd}
+use Rattle.masks.specs.Pick.{pick}
+use Rattle.groups.specs.Groups.{numberAt, encode}
+use Rattle.groups.specs.declared.groups.Number.{Number}
+use Rattle.groups.specs.declared.groups.Number.the-variants.{Value, Ended, IllFormed}
+use Rattle.grammar.specs.Refusals.{endsInside, illFormed, outOfRange, outOfOrder, surplus, tooShort}
+use Rattle.grammar.specs.Grammar.{step, start, noCounts, atEnd}
+use Rattle.grammar.specs.declared.grammar.Expected.{Expected}
+use Rattle.grammar.specs.declared.grammar.State.{State}
+use Rattle.grammar.specs.declared.grammar.State.the-variants.{Wants, Complete, OutOfRange, OutOfOrder}
 use Rattle.sheet.specs.declared.answer.Answer.{Answer}
-use Rattle.sheet.specs.declared.grammar.Expected.{Expected}
-use Rattle.sheet.specs.declared.grammar.State.{State}
-use Rattle.sheet.specs.declared.grammar.State.the-variants.{Wants, Complete, OutOfRange, OutOfOrder}
-use Rattle.sheet.specs.declared.groups.Number.{Number}
-use Rattle.sheet.specs.declared.groups.Number.the-variants.{Value, Ended, IllFormed}
 
 -- What a source has: a number, bytes that end inside a number, or groups that are no number.
 pub data Item : Type 0 where
   num : ℕ → Item
   cut : Item
   ill : Item
+
+-- The refusal of what stands at a place: 0 for a number.
+abbrev pub numberRefusal : Number → ℕ
+numberRefusal (Value x next) = 0
+numberRefusal Ended = endsInside
+numberRefusal IllFormed = illFormed
 
 -- An item that follows: judged where a number is expected, surplus after the last rule, and a refusal stays.
 abbrev pub meets : State → (ℕ → Expected → ℕ) → ℕ

@@ -9,17 +9,17 @@ use lib.Dec.{eqb}
 use lib.ListN.{length, drop, getD, length-append, length-set, drop-of-length-le}
 use lib.Seq.{drop-cons, sets}
 use borrow.Author.Tests.{le-leb, lt-leb, eq-eqb, ne-eqb}
-use Rattle.sheet.specs.Storing.{sets-front}
-use Rattle.sheet.specs.Pick.{pick, pick-true, pick-false}
-use Rattle.sheet.specs.Refusals.{endsInside, illFormed, tooShort}
-use Rattle.sheet.specs.Groups.{encode}
-use Rattle.sheet.specs.Grammar.{step, atEnd}
+use Rattle.masks.specs.Pick.{pick, pick-true, pick-false}
+use Rattle.groups.specs.Storing.{sets-front}
+use Rattle.groups.specs.Groups.{encode}
+use Rattle.grammar.specs.Refusals.{endsInside, illFormed, tooShort}
+use Rattle.grammar.specs.Grammar.{step, atEnd}
+use Rattle.grammar.specs.declared.grammar.Expected.{Expected}
+use Rattle.grammar.specs.declared.grammar.Expected.the-variants.{Fields, Count, Setting, Reach, Rules, First, Second, Kind, Mask, Amount}
+use Rattle.grammar.specs.declared.grammar.State.{State}
+use Rattle.grammar.specs.declared.grammar.State.the-variants.{Wants}
 use Rattle.sheet.specs.Judge.{Item, num, cut, ill, meets, judge, refusal, numbers, ofNumbers, bytesOf, answered, checked, Outcome, outcome, refusing, giving, Gives}
 use Rattle.sheet.specs.declared.answer.Answer.{Answer}
-use Rattle.sheet.specs.declared.grammar.Expected.{Expected}
-use Rattle.sheet.specs.declared.grammar.Expected.the-variants.{Fields, Count, Setting, Reach, Rules, First, Second, Kind, Mask, Amount}
-use Rattle.sheet.specs.declared.grammar.State.{State}
-use Rattle.sheet.specs.declared.grammar.State.the-variants.{Wants}
 
 -- ---- a turn
 

@@ -3,21 +3,21 @@ ghost use mathlib.Core.Path.{_≡_};
 ghost use Prim.Native.Nat.{_≤_};
 ghost use lib.ListN.{length, replicate};
 ghost use lib.Seq.{sets};
-ghost use Rattle.sheet.specs.Limits.{mostFields};
+ghost use Rattle.grammar.specs.Limits.{mostFields};
 ghost use Rattle.sheet.specs.Judge.{checked, Gives, writing, ofNumbers, bytesOf};
 use super::answer::Answer;
-use super::answer::OUT_OF_ORDER;
-use super::answer::OUT_OF_RANGE;
-use super::answer::SURPLUS;
-use super::answer::TOO_SHORT;
 use super::answer::answered;
-use super::grammar::Expected;
-use super::grammar::State;
-use super::grammar::at_end;
-use super::grammar::step;
-use super::groups::put;
-use super::groups::size;
-use super::limits::MOST_FIELDS;
+use grammar::grammar::Expected;
+use grammar::grammar::State;
+use grammar::grammar::at_end;
+use grammar::grammar::step;
+use grammar::limits::MOST_FIELDS;
+use grammar::refusals::OUT_OF_ORDER;
+use grammar::refusals::OUT_OF_RANGE;
+use grammar::refusals::SURPLUS;
+use grammar::refusals::TOO_SHORT;
+use groups::groups::put;
+use groups::groups::size;
 
 // `counts` is room for the counts of the fields.
 fn check_with(numbers: &[u32], counts: &mut [u32]) -> Answer

@@ -7,7 +7,7 @@ use Prim.Native.Nat.{ℕ}
 use lib.Dec.{eqb}
 use lib.ListN.{length, take}
 use borrow.Author.Tests.{eqb-true, eq-eqb}
-use Rattle.sheet.specs.Pick.{pick, pick-true}
+use Rattle.masks.specs.Pick.{pick, pick-true}
 use Rattle.sheet.specs.Judge.{numbers, ofBytes}
 use Rattle.ledger.specs.declared.Call.{Call}
 use Rattle.ledger.specs.Ledger.{Ledger, Given, neither, changeOf, empty, step, offersOf, illFormed, number, after}

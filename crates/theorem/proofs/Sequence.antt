@@ -7,7 +7,7 @@ use mathlib.Core.List.{List, [], _∷_}
 use Prim.Native.Nat.{ℕ}
 use lib.Dec.{eqb}
 use borrow.Author.Tests.{eq-eqb}
-use Rattle.sheet.specs.Pick.{pick, pick-true}
+use Rattle.masks.specs.Pick.{pick, pick-true}
 use Rattle.sheet.specs.Judge.{numbers, ofBytes}
 use Rattle.ledger.specs.declared.Call.{Call}
 use Rattle.ledger.specs.Ledger.{Ledger, Given, inForce, offersOf, step, number, causes, judged, malformed, after}

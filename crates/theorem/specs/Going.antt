@@ -10,7 +10,7 @@ use lib.ListN.{length, take, drop, set, length-set, length-replicate}
 use lib.Seq.{take-at, drop-at}
 use borrow.Author.Tests.{eqb-true, eqb-false, eq-eqb}
 use Rattle.masks.specs.Tests.{never, eq-cases}
-use Rattle.sheet.specs.Pick.{pick, pick-true, pick-false}
+use Rattle.masks.specs.Pick.{pick, pick-true, pick-false}
 use Rattle.sheet.specs.Judge.{refusal, numbers, ofBytes}
 use Rattle.accepted.specs.Accept.{bytes-accepted}
 use Rattle.accepted.specs.Parts.{fieldsOf}

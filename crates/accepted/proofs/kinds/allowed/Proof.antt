@@ -3,7 +3,7 @@ use Prim.Native.Nat.{ℕ}
 use lib.Dec.{leb, eqb}
 use borrow.Author.Needs.{needs}
 use borrow.Author.Tests.{ne-eqb}
-use Rattle.sheet.specs.Pick.{pick, pick-false}
+use Rattle.masks.specs.Pick.{pick, pick-false}
 use Rattle.accepted.proofs.kinds.allowed.Statement.{statement}
 use Rattle.accepted.proofs.kinds.allowed.Tie as tie
 

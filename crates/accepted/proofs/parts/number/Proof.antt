@@ -5,7 +5,7 @@ use native.Mathlib.Omega.{arith}
 use lib.ListN.{length, getD}
 use borrow.Author.Tests.{eq-eqb, ne-eqb}
 use denote.Ref.{now}
-use Rattle.sheet.specs.Pick.{pick-true, pick-false}
+use Rattle.masks.specs.Pick.{pick-true, pick-false}
 use Rattle.accepted.specs.Facts.{rule-ends-at, mask-ends-at}
 use Rattle.accepted.proofs.parts.number.Statement.{statement}
 use Rattle.accepted.proofs.parts.number.Tie as tie

@@ -1,6 +1,6 @@
 use mathlib.Core.Path.{_≡_, refl, sym, ap, _∙_}
 use native.Mathlib.Omega.{arith}
-use Rattle.sheet.specs.Pick.{pick}
+use Rattle.masks.specs.Pick.{pick}
 use Rattle.answering.specs.Changes.{changeBy}
 use borrow.Author.Needs.{needs}
 use Rattle.answering.proofs.judge.event_of.Statement.{statement}

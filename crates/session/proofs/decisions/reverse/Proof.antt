@@ -1,5 +1,5 @@
 use mathlib.Core.Path.{sym, _∙_}
-use Rattle.sheet.specs.Pick.{pick-true, pick-false}
+use Rattle.masks.specs.Pick.{pick-true, pick-false}
 use borrow.Author.Tests.{le-leb, lt-leb}
 use borrow.Author.Needs.{needs}
 use Rattle.session.proofs.decisions.reverse.Statement.{statement}

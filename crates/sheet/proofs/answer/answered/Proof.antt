@@ -1,5 +1,5 @@
 use borrow.Author.Tests.{eq-eqb, ne-eqb}
-use Rattle.sheet.specs.Pick.{pick-true, pick-false}
+use Rattle.masks.specs.Pick.{pick-true, pick-false}
 use Rattle.sheet.proofs.answer.answered.Statement.{statement}
 use Rattle.sheet.proofs.answer.answered.Tie as tie
 

@@ -5,13 +5,13 @@ use native.Mathlib.Omega.{arith}
 use lib.ListN.{length}
 use borrow.Author.Needs.{needs}
 use denote.Ref.{now}
-use Rattle.sheet.specs.Grammar.{start}
-use Rattle.sheet.specs.Groups.{numberAt, number-next}
+use Rattle.groups.specs.Groups.{numberAt, number-next}
+use Rattle.groups.specs.declared.groups.Number.the-variants.{Value}
+use Rattle.grammar.specs.Grammar.{start}
+use Rattle.grammar.specs.declared.grammar.State.{State}
 use Rattle.sheet.specs.Judge.{Item, meets, judge, numbers, itemsFrom, ofBytes, answered}
 use Rattle.sheet.specs.Items.{from-end, from-num, from-cut, from-ill, from-some}
 use Rattle.sheet.specs.Turns.{Going, going-on, going-end, going-refused, going-stays, judge-cut, judge-ill, numbers-num, numbers-none, step-length}
-use Rattle.sheet.specs.declared.grammar.State.{State}
-use Rattle.sheet.specs.declared.groups.Number.the-variants.{Value}
 use Rattle.sheet.proofs.reading.check_with.Statement.{statement}
 use Rattle.sheet.proofs.reading.check_with.Tie as tie
 

@@ -5,11 +5,11 @@ use native.Mathlib.Omega.{arith}
 use lib.ListN.{length, drop, getD, drop-of-length-le}
 use borrow.Author.Needs.{needs}
 use denote.Ref.{now}
-use Rattle.sheet.specs.Grammar.{start}
-use Rattle.sheet.specs.Groups.{encode}
+use Rattle.groups.specs.Groups.{encode}
+use Rattle.grammar.specs.Grammar.{start}
+use Rattle.grammar.specs.declared.grammar.State.{State}
 use Rattle.sheet.specs.Judge.{meets, judge, ofNumbers, bytesOf, answered}
 use Rattle.sheet.specs.Turns.{Going, going-on, going-end, going-stays, items-next, bytes-next, bytes-end, step-length}
-use Rattle.sheet.specs.declared.grammar.State.{State}
 use Rattle.sheet.proofs.writing.check_with.Statement.{statement}
 use Rattle.sheet.proofs.writing.check_with.Tie as tie
 

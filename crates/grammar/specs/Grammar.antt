@@ -1,0 +1,81 @@
+-- The sheet, number after number: what is expected, its range (else 3), its order (else 4), and what follows. Assumes nothing.
+use mathlib.Core.Bool.{Bool, _&&_}
+use mathlib.Core.List.{List}
+use Prim.Native.Nat.{ℕ, _+_, _-_, _*_, _^_}
+use lib.Dec.{ltb, leb, eqb}
+use lib.ListN.{getD, set, replicate}
+use Rattle.masks.specs.Pick.{pick}
+use Rattle.grammar.specs.Limits.{mostFields, mostSettings, largestSetting, mostReach, mostRules, lastKind}
+use Rattle.grammar.specs.Refusals.{endsInside, outOfRange, outOfOrder}
+use Rattle.grammar.specs.declared.grammar.Expected.{Expected}
+use Rattle.grammar.specs.declared.grammar.Expected.the-variants.{Fields, Count, Setting, Reach, Rules, First, Second, Kind, Mask, Amount}
+use Rattle.grammar.specs.declared.grammar.State.{State}
+use Rattle.grammar.specs.declared.grammar.State.the-variants.{Wants, Complete, OutOfRange, OutOfOrder}
+
+-- x is from 1 to `most`
+abbrev pub upTo : ℕ → ℕ → Bool
+upTo most x = leb 1 x && leb x most
+
+-- a number in its range leads on, another is refused
+abbrev pub ranged : Bool → State → State
+ranged test next = pick test next OutOfRange
+
+-- so for the order
+abbrev pub ordered : Bool → State → State
+ordered test next = pick test next OutOfOrder
+
+-- what follows field f's last setting, of n fields
+abbrev pub afterField : ℕ → ℕ → State
+afterField n f = pick (ltb (f + 1) n) (Wants n (Count (f + 1))) (Wants n Reach)
+
+-- what follows a setting of field f, where `more` are to come, each at least `floor`
+abbrev pub afterSetting : ℕ → ℕ → ℕ → ℕ → State
+afterSetting n f more floor = pick (eqb more 0) (afterField n f) (Wants n (Setting f (more - 1) floor))
+
+-- what follows a rule, where `rules` are to come, each at least `floor` by its key
+abbrev pub afterRule : ℕ → ℕ → ℕ → State
+afterRule n rules floor = pick (eqb rules 0) Complete (Wants n (First (rules - 1) floor))
+
+-- what follows a mask, of which `more` are to come
+abbrev pub afterMask : ℕ → ℕ → ℕ → ℕ → ℕ → State
+afterMask n rules floor j more = pick (eqb more 0) (afterRule n rules floor) (Wants n (Mask rules floor j (more - 1)))
+
+-- what follows a kind: `masks` masks, or a number c
+abbrev pub afterKind : ℕ → ℕ → ℕ → ℕ → ℕ → ℕ → State
+afterKind n rules floor j masks kind = pick (eqb kind 0) (Wants n (Mask rules floor j (masks - 1))) (Wants n (Amount rules floor))
+
+-- the place of a rule in the order by (i, j)
+abbrev pub key : ℕ → ℕ → ℕ
+key i j = i * mostFields + j
+
+-- a rule's fields i below j, and the rule not below the floor
+abbrev pub rising : ℕ → ℕ → ℕ → Bool
+rising i j floor = ltb i j && leb floor (key i j)
+
+-- What the number x leads to, with n fields, and the counts ds of the fields so far, with x where it is one. `more` and `rules` count what is
+-- still to come after x of its field or rule and of the rules; `floor` is the least that may come, one more than what came last.
+unfoldable pub step : (n : ℕ) → Expected → (ds : List ℕ) → (x : ℕ) → State × List ℕ
+step n Fields ds x = (ranged (upTo mostFields x) (Wants x (Count 0)), ds)
+step n (Count f) ds x = (ranged (upTo mostSettings x) (Wants n (Setting f (x - 1) 0)), set ds f x)
+step n (Setting f more floor) ds x = (ranged (leb x largestSetting) (ordered (leb floor x) (afterSetting n f more (x + 1))), ds)
+step n Reach ds x = (ranged (upTo mostReach x) (Wants n Rules), ds)
+step n Rules ds x = (ranged (leb x mostRules) (afterRule n x 0), ds)
+step n (First rules floor) ds x = (ranged (ltb x n) (Wants n (Second rules floor x)), ds)
+step n (Second rules floor i) ds x = (ranged (ltb x n) (ordered (rising i x floor) (Wants n (Kind rules i x))), ds)
+step n (Kind rules i j) ds x = (ranged (leb x lastKind) (afterKind n rules (key i j + 1) j (getD ds i 0) x), ds)
+step n (Mask rules floor j more) ds x = (ranged (ltb x (2 ^ getD ds j 0)) (afterMask n rules floor j more), ds)
+step n (Amount rules floor) ds x = (ranged (leb x largestSetting) (afterRule n rules floor), ds)
+
+-- before the first number, and the counts then
+abbrev pub start : State
+start = Wants 0 Fields
+
+abbrev pub noCounts : List ℕ
+noCounts = replicate mostFields 0
+
+-- the number of a source that ends here
+abbrev pub atEnd : State → ℕ
+atEnd (Wants n e) = endsInside
+atEnd Complete = 0
+atEnd OutOfRange = outOfRange
+atEnd OutOfOrder = outOfOrder

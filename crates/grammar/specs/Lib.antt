@@ -1,0 +1,4 @@
+-- What the contracts of `grammar` cite.
+pub mod Limits
+pub mod Refusals
+pub mod Grammar
