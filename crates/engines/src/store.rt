@@ -11,6 +11,7 @@ ghost use Rattle.network.specs.Tables.{problemOf};
 ghost use Rattle.closing.specs.Asks.{Masks, LiveAsks};
 ghost use Rattle.engines.specs.Store.{recall, lackBelow, Store, Checked};
 use closing::test::test;
+use masks::Domains;
 use masks::has_bit;
 use masks::one_bit;
 use network::rows::store;
@@ -29,10 +30,10 @@ fn intact(memory: &[u32], base: usize, m: &[u32; 24]) -> bool
     lack == 0
 }
 
-// Whether position v of field f passes in the set t over f's neighbourhood. With `remembers`, what a passed test left is remembered, and
-// while the set holds all of it the setting is not tested again. t is used up.
+// Whether position v of field f passes in the set m over f's neighbourhood. With `remembers`, what a passed test left is remembered, and
+// while the set holds all of it the setting is not tested again.
 pub fn check<'a>(
-    t: &mut [u32; 24],
+    m: &[u32; 24],
     known: &mut [u32; 24],
     memory: &mut [u32],
     remembers: bool,
@@ -44,24 +45,27 @@ pub fn check<'a>(
     forward: &'a [u32],
     turned: &'a [u32],
 ) -> bool
-    requires { ⌜ LiveAsks n (now joined) (now forward) (now turned) (now t) × Store (problemOf n (now joined) (now forward) (now turned)) (now hood) (now known) (now memory) ⌝ }
-    requires { ⌜ Within (getD (now hood) f 0) (allFields (problemOf n (now joined) (now forward) (now turned))) × (bit (getD (now hood) f 0) f ≡ true) × (has (now t) f v ≡ true) ⌝ }
-    ensures { λ r. ⌜ Checked (problemOf n (now (joined .entry)) (now (forward .entry)) (now (turned .entry))) (now (hood .entry)) (now (t .entry)) f v r (now (known .exit)) (now (memory .exit)) ⌝ }
+    requires { ⌜ LiveAsks n (now joined) (now forward) (now turned) (now m) × Store (problemOf n (now joined) (now forward) (now turned)) (now hood) (now known) (now memory) ⌝ }
+    requires { ⌜ Within (getD (now hood) f 0) (allFields (problemOf n (now joined) (now forward) (now turned))) × (bit (getD (now hood) f 0) f ≡ true) × (has (now m) f v ≡ true) ⌝ }
+    ensures { λ r. ⌜ Checked (problemOf n (now (joined .entry)) (now (forward .entry)) (now (turned .entry))) (now (hood .entry)) (now (m .entry)) f v r (now (known .exit)) (now (memory .exit)) ⌝ }
 {
     let within = hood[f];
     let base = (f * 24 + v) * 24;
     if remembers {
         if has_bit(known[f], v) {
-            if intact(memory, base, t) {
+            if intact(memory, base, m) {
                 return true;
             }
         }
     }
-    if !test(t, n, f, v, within, joined, forward, turned) {
+    let masks = *m;
+    let set = Domains { masks };
+    let mut left = set.cut(f, v);
+    if !test(&mut left.masks, n, f, within, joined, forward, turned) {
         return false;
     }
     if remembers {
-        store(memory, base, t);
+        store(memory, base, &left.masks);
         known[f] |= one_bit(v);
     }
     true

@@ -37,9 +37,8 @@ pub fn visit<'a>(
     while left != 0 {
         let v = lowest_bit(left);
         left = clear_bit(left, v);
-        let mut t = *m;
         if !check(
-            &mut t,
+            m,
             known,
             memory,
             remembers,

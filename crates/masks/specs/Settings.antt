@@ -2,8 +2,8 @@
 use mathlib.Core.Path.{_≡_, refl, ap, _∙_}
 use mathlib.Core.Logic.{⊎-elim}
 use mathlib.Core.Bool.{Bool, true, false, not, _&&_}
-use mathlib.Core.List.{List}
-use Prim.Native.Nat.{ℕ, _+_, _^_, _<_}
+use mathlib.Core.List.{List, [], _∷_}
+use Prim.Native.Nat.{ℕ, zero, suc, _+_, _^_, _<_}
 use native.Mathlib.Numerals.{add-one}
 use lib.Dec.{eqb}
 use lib.Bits.{bitAnd}
@@ -14,6 +14,12 @@ use Rattle.masks.specs.Bits.{bit, bit-of-zero, bit-some}
 use Rattle.masks.specs.Masks.{keepBits-cong}
 use Rattle.masks.specs.Words.{keepBits-only, clear}
 use Rattle.masks.specs.Sets.{has, _⊆_, only, length-only, only-⊆, only-at, only-by, only-set, count, count-lt, same, same-at}
+
+-- what a store leaves at its place can be stored there again
+set-stored : (S : List ℕ) (f x : ℕ) → set S f (getD (set S f x) f 0) ≡ set S f x
+set-stored [] f x = refl
+set-stored (m ∷ S) zero x = refl
+set-stored (m ∷ S) (suc f) x = ap (λ (R : List ℕ). m ∷ R) (set-stored S f x)
 
 -- ---- S cut to position v of field f: of f, at most that one
 
@@ -76,6 +82,9 @@ unfolding lose clear
 lose-set S f v =
     only-set (λ g u. not (eqb g f && eqb u v)) S f (λ g u d. rw (ne-eqb g f d))
     ∙ ap (set S f) (keepBits-cong _ _ (λ u. not (eqb u v)) (λ u. rw (eq-eqb f f refl)))
+
+pub lose-stored : (S : List ℕ) (f v : ℕ) → set S f (getD (lose S f v) f 0) ≡ lose S f v
+lose-stored S f v = rw (lose-set S f v) (set-stored S f _)
 
 -- where the setting is there, the count falls
 pub lose-count : (S : List ℕ) (f v : ℕ) → has S f v ≡ true → count (lose S f v) < count S

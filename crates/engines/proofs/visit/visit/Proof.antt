@@ -37,46 +37,46 @@ clear-bit-requires c κs = search needs
 
 check-requires : tie.Need-check-requires Inv-loop μ-loop
 check-requires c κs =
-    let i = c .before .before .before .before .before .before .before .loop .inv in
-    let p = c .before .before .before .before .before .before .before .before .before .before .before .before .pre in
-    ((asks-shrunk _ _ _ _ _ (p .0 .0) (i .0 .shrunk) (i .0 .live), i .1), (p .1 .1, p .1 .2, visiting-has _ _ _ _ _ _ _ _ (i .0) (c .before .before .before .before .before .lowest-bit .ensures .0 .set)))
+    let i = c .before .before .before .before .before .before .loop .inv in
+    let p = c .before .before .before .before .before .before .before .before .before .before .before .pre in
+    ((asks-shrunk _ _ _ _ _ (p .0 .0) (i .0 .shrunk) (i .0 .live), i .1), (p .1 .1, p .1 .2, visiting-has _ _ _ _ _ _ _ _ (i .0) (c .before .before .before .before .lowest-bit .ensures .0 .set)))
 
 remove-requires : tie.Need-remove-requires Inv-loop μ-loop
 remove-requires c κs =
-    let i = c .before .before .before .before .before .before .before .before .before .before .before .before .loop .inv .0 in
-    (asks-shrunk _ _ _ _ _ (c .before .before .before .before .before .before .before .before .before .before .before .before .before .before .before .before .before .pre .0 .0) (i .shrunk) (i .live), visiting-has _ _ _ _ _ _ _ _ i (c .before .before .before .before .before .before .before .before .before .before .lowest-bit .ensures .0 .set))
+    let i = c .before .before .before .before .before .before .before .before .before .before .before .loop .inv .0 in
+    (asks-shrunk _ _ _ _ _ (c .before .before .before .before .before .before .before .before .before .before .before .before .before .before .before .before .pre .0 .0) (i .shrunk) (i .live), visiting-has _ _ _ _ _ _ _ _ i (c .before .before .before .before .before .before .before .before .before .lowest-bit .ensures .0 .set))
 
 same-length : tie.Need-same-length Inv-loop μ-loop
-same-length c = c .before .before .before .before .before .before .check .kept .1 .1 .0 ∙ c .before .before .before .before .before .before .before .before .before .before .before .before .before .before .loop .inv .2
+same-length c = c .before .before .before .before .before .before .check .kept .1 .1 .0 ∙ c .before .before .before .before .before .before .before .before .before .before .before .before .before .loop .inv .2
 
 returns : tie.Need-returns Inv-loop μ-loop
-returns c = (visiting-none _ _ _ _ _ _ _ _ (c .before .before .before .before .before .before .before .before .before .before .before .before .before .before .loop .inv .0) (sym (c .before .before .before .before .before .before .check .ensures .passed) ∙ not-true (c .before .before .before .before .before .before .check .result) (c .before .before .before .if1 .taken)) _ _ (rw (c .if2 .taken) at (c .before .remove .ensures)) _, c .before .before .before .before .before .before .check .ensures .store)
+returns c = (visiting-none _ _ _ _ _ _ _ _ (c .before .before .before .before .before .before .before .before .before .before .before .before .before .loop .inv .0) (sym (c .before .before .before .before .before .before .check .ensures .passed) ∙ not-true (c .before .before .before .before .before .before .check .result) (c .before .before .before .if1 .taken)) _ _ (rw (c .if2 .taken) at (c .before .remove .ensures)) _, c .before .before .before .before .before .before .check .ensures .store)
 
 mul-left-2 : tie.Need-mul-left-2 Inv-loop μ-loop
-mul-left-2 c = let l = c .before .before .before .before .before .before .before .before .before .before .before .before .before .before .before .before .before .before .before .before .pre .1 .0 in let k = c .before .before .before .before .before .before .before .before .before .before .before .before .before .before .before .before .before .before .before .before .pre .0 .0 .wired .few in omega arith
+mul-left-2 c = let l = c .before .before .before .before .before .before .before .before .before .before .before .before .before .before .before .before .before .before .before .pre .1 .0 in let k = c .before .before .before .before .before .before .before .before .before .before .before .before .before .before .before .before .before .before .before .pre .0 .0 .wired .few in omega arith
 
 element-copy-out-left-2 : tie.Need-element-copy-out-left-2 Inv-loop μ-loop
-element-copy-out-left-2 c = let l = c .before .before .before .before .before .before .before .before .before .before .before .before .before .before .before .before .before .before .before .before .pre .1 .0 in let k = c .before .before .before .before .before .before .before .before .before .before .before .before .before .before .before .before .before .before .before .before .pre .0 .0 .wired .few in omega arith
+element-copy-out-left-2 c = let l = c .before .before .before .before .before .before .before .before .before .before .before .before .before .before .before .before .before .before .before .pre .1 .0 in let k = c .before .before .before .before .before .before .before .before .before .before .before .before .before .before .before .before .before .before .before .pre .0 .0 .wired .few in omega arith
 
 loop-less : tie.Need-loop-less Inv-loop μ-loop
 loop-less c =
-    let l = clear-lt _ _ (c .before .before .before .before .before .before .before .before .before .before .before .before .before .before .lowest-bit .ensures .0 .set) in
-    let e = c .before .before .before .before .before .before .before .before .before .before .before .before .before .clear-bit .ensures in
-    let b = and-le-l (c .before .before .before .before .before .before .before .before .before .before .before .before .before .clear-bit .result) (getD (c .before .before .before .remove .last .0) (c .before .before .before .before .before .before .before .before .before .before .before .before .before .before .before .before .before .before .before .before .before .args .f) 0) in
+    let l = clear-lt _ _ (c .before .before .before .before .before .before .before .before .before .before .before .before .before .lowest-bit .ensures .0 .set) in
+    let e = c .before .before .before .before .before .before .before .before .before .before .before .before .clear-bit .ensures in
+    let b = and-le-l (c .before .before .before .before .before .before .before .before .before .before .before .before .clear-bit .result) (getD (c .before .before .before .remove .last .0) (c .before .before .before .before .before .before .before .before .before .before .before .before .before .before .before .before .before .before .before .before .args .f) 0) in
     omega (arith, l, e, b)
 
 loop-again : tie.Need-loop-again Inv-loop μ-loop
 loop-again c = (
-  rw (c .before .before .before .before .before .before .before .before .before .before .before .before .before .clear-bit .ensures) (visiting-fail _ _ _ _ _ _ _ _ (c .before .before .before .before .before .before .before .before .before .before .before .before .before .before .before .before .loop .inv .0) (sym (c .before .before .before .before .before .before .before .before .check .ensures .passed) ∙ not-true (c .before .before .before .before .before .before .before .before .check .result) (c .before .before .before .before .before .if1 .taken)) _ _ (rw (c .before .before .if2 .left) at (c .before .before .before .remove .ensures))),
+  rw (c .before .before .before .before .before .before .before .before .before .before .before .before .clear-bit .ensures) (visiting-fail _ _ _ _ _ _ _ _ (c .before .before .before .before .before .before .before .before .before .before .before .before .before .before .before .loop .inv .0) (sym (c .before .before .before .before .before .before .before .before .check .ensures .passed) ∙ not-true (c .before .before .before .before .before .before .before .before .check .result) (c .before .before .before .before .before .if1 .taken)) _ _ (rw (c .before .before .if2 .left) at (c .before .before .before .remove .ensures))),
   c .before .before .before .before .before .before .before .before .check .ensures .store,
-  c .before .before .before .before .before .before .before .before .check .kept .1 .1 .0 ∙ c .before .before .before .before .before .before .before .before .before .before .before .before .before .before .before .before .loop .inv .2,
+  c .before .before .before .before .before .before .before .before .check .kept .1 .1 .0 ∙ c .before .before .before .before .before .before .before .before .before .before .before .before .before .before .before .loop .inv .2,
 )
 
 loop-less-2 : tie.Need-loop-less-2 Inv-loop μ-loop
-loop-less-2 c = rw (c .before .before .before .before .before .before .before .before .clear-bit .ensures) (clear-lt _ _ (c .before .before .before .before .before .before .before .before .before .lowest-bit .ensures .0 .set))
+loop-less-2 c = rw (c .before .before .before .before .before .before .before .clear-bit .ensures) (clear-lt _ _ (c .before .before .before .before .before .before .before .before .lowest-bit .ensures .0 .set))
 
 loop-again-2 : tie.Need-loop-again-2 Inv-loop μ-loop
-loop-again-2 c = (rw (c .before .before .before .before .before .before .before .before .clear-bit .ensures) (visiting-pass _ _ _ _ _ _ _ _ (c .before .before .before .before .before .before .before .before .before .before .before .loop .inv .0) (sym (c .before .before .before .check .ensures .passed) ∙ not-false (c .before .before .before .check .result) (c .if1 .left))), c .before .before .before .check .ensures .store, c .before .before .before .check .kept .1 .1 .0 ∙ c .before .before .before .before .before .before .before .before .before .before .before .loop .inv .2)
+loop-again-2 c = (rw (c .before .before .before .before .before .before .before .clear-bit .ensures) (visiting-pass _ _ _ _ _ _ _ _ (c .before .before .before .before .before .before .before .before .before .before .loop .inv .0) (sym (c .before .before .before .check .ensures .passed) ∙ not-false (c .before .before .before .check .result) (c .if1 .left))), c .before .before .before .check .ensures .store, c .before .before .before .check .kept .1 .1 .0 ∙ c .before .before .before .before .before .before .before .before .before .before .loop .inv .2)
 
 same-length-2 : tie.Need-same-length-2 Inv-loop μ-loop
 same-length-2 c = c .before .loop .inv .2
