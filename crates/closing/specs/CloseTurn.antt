@@ -7,9 +7,9 @@ use native.Mathlib.Nat.{lt-of-le-of-lt}
 use native.Mathlib.Omega.{arith}
 use lib.Bits.{bitAnd, bitOr, and-le-r}
 use lib.ListN.{length, getD}
-use Rattle.masks.specs.Tests.{not-so, and-l, and-r}
+use Rattle.masks.specs.Tests.{not-so, and-l, and-r, and-by, or-l}
 use Rattle.masks.specs.Bits.{bit, Within}
-use Rattle.masks.specs.Words.{bit-and, clear}
+use Rattle.masks.specs.Words.{bit-and, bit-or, clear, bit-clear}
 use Rattle.masks.specs.Sets.{count}
 use Rattle.masks.specs.Settings.{empty}
 use Rattle.consistency.specs.Problem.{Problem, allFields-bound}
@@ -20,6 +20,12 @@ use Rattle.closing.specs.Spread.{Spread}
 use Rattle.closing.specs.Close.{Closing, Closes, revise, closing-none, closing-turn, closing-less}
 use Rattle.closing.specs.Rows.{keep-revise}
 use Rattle.closing.specs.Asks.{Masks, CloseAsks, fields-small}
+
+-- what a sweep still takes after g has changed since, whatever else changed
+pub sweep-next : (next left g more : ℕ) → Within next left → Within (clear next g) (bitOr (clear left g) more)
+sweep-next next left g more h v e =
+    let b = sym (bit-clear next g v) ∙ e in
+    bit-or (clear left g) more v ∙ or-l _ _ (bit-clear left g v ∙ and-by _ _ (h v (and-l _ _ b)) (and-r (bit next v) _ b))
 
 module _ (n : ℕ) (joined forward turned : List ℕ) (W changed0 : ℕ) (S0 : List ℕ) (a : CloseAsks n joined forward turned W changed0 S0) where
   abbrev P : Problem

@@ -4,7 +4,7 @@ ghost use mathlib.Core.Bool.{false};
 ghost use Prim.Native.Nat.{_^_, _≤_, _<_};
 ghost use lib.Bits.{bitAnd};
 ghost use lib.ListN.{length, getD};
-ghost use Rattle.masks.specs.Bits.{bit};
+ghost use Rattle.masks.specs.Bits.{bit, Within};
 ghost use Rattle.network.specs.Tables.{tableWords, rowsOf, problemOf};
 ghost use Rattle.closing.specs.Union.{Floods, unionOf};
 ghost use Rattle.closing.specs.Spread.{Spread};
@@ -77,6 +77,17 @@ fn spread<'a>(
     }
 }
 
+// The fields that a sweep over the changed fields still takes; where none is left, all of a new sweep.
+fn swept(sweep: u32, left: u32) -> u32
+    requires { ⌜ (left ≡ 0 → ⊥) × Within sweep left ⌝ }
+    ensures { λ r. ⌜ (r ≡ 0 → ⊥) × Within r left ⌝ }
+{
+    if sweep == 0 {
+        return left;
+    }
+    sweep
+}
+
 // Closes m over the fields of `within`, where only the fields of `changed` may leave a setting without a partner. The number of fields n is
 // there for the contract, which speaks of the problem of n fields that the tables hold.
 pub fn close<'a>(
@@ -92,9 +103,12 @@ pub fn close<'a>(
     ensures { λ r. ⌜ Closes (problemOf n (now (joined .entry)) (now (forward .entry)) (now (turned .entry))) within (now (m .entry)) (r .wiped) (r .changed) (now (m .exit)) ⌝ }
 {
     let mut left = changed;
+    let mut sweep = changed;
     let mut touched: u32 = 0;
     while left != 0 {
-        let g = lowest_bit(left);
+        let next = swept(sweep, left);
+        let g = lowest_bit(next);
+        sweep = clear_bit(next, g);
         let near = joined[g] & within;
         let s = spread(m, g, near, forward, turned);
         if s.wiped {

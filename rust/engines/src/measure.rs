@@ -2,7 +2,7 @@
 
 use crate::plain::closing::Closing;
 use crate::plain::lanes::{GroupedLanes, Lanes};
-use crate::plain::pairs::{BranchFreeUnion, CoveringUnion, NarrowUnion, Pairwise, SupportTests, Union};
+use crate::plain::pairs::{BranchFreeUnion, CoveringUnion, LowestFirst, NarrowUnion, Pairwise, SupportTests, Union};
 use crate::plain::{Run, Solver};
 use crate::proved::{Engine, Proved};
 use crate::remembering::Remembering;
@@ -85,8 +85,10 @@ fn plain_sac1<C: Closing + 'static, G: Closing + 'static>() -> Vec<Contestant> {
         plain::<Pairwise<SupportTests>>(Role::Branching),
         plain::<Pairwise<Union>>(Role::Branching),
         plain::<Pairwise<CoveringUnion>>(Role::Branching),
+        plain::<Pairwise<LowestFirst<CoveringUnion>>>(Role::Branching),
         plain::<Pairwise<BranchFreeUnion>>(Role::BranchFree),
         plain::<Pairwise<NarrowUnion>>(Role::BranchFree),
+        plain::<Pairwise<LowestFirst<NarrowUnion>>>(Role::BranchFree),
         plain::<C>(Role::AtOnce),
         plain::<G>(Role::Grouped),
     ]

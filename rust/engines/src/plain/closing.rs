@@ -15,7 +15,7 @@ pub trait Closing: Default {
     fn close(&self, network: &Network, domains: &mut Domains, within: u32, changed: u32) -> Option<u32>;
 }
 
-/// The changed fields, taken in sweeps: a field that changes behind the sweep waits for the next one.
+/// The changed fields. They are taken in sweeps, where a field that changes behind the sweep waits for the next one, or the lowest first.
 pub struct Changed {
     sweep: u32,
     all: u32,
@@ -33,8 +33,8 @@ impl Changed {
     }
 
     #[inline(always)]
-    pub fn take(&mut self) -> Option<usize> {
-        if self.sweep == 0 {
+    pub fn take(&mut self, lowest_first: bool) -> Option<usize> {
+        if lowest_first || self.sweep == 0 {
             self.sweep = self.all;
         }
         if self.sweep == 0 {

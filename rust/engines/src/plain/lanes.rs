@@ -119,7 +119,7 @@ fn close<const LANES: usize>(
     let lanes: &mut [u32; LANES] = domains.first_chunk_mut().unwrap();
     let mut touched = 0;
     let mut changed = Changed::new(changed);
-    while let Some(g) = changed.take() {
+    while let Some(g) = changed.take(false) {
         let mut union = *outside;
         unions(g, lanes[g], &mut union);
         let lost = narrow(lanes, &union)?;

@@ -37,6 +37,9 @@ pub trait Revise {
     /// Whether 8 rows are enough where the changed field has no later value.
     const NARROWS: bool = false;
 
+    /// Whether the lowest changed field is taken first, and not the next in the sweep.
+    const LOWEST_FIRST: bool = false;
+
     /// What is left of the domain `old` of f, a neighbour of the changed field g. No row past the first ROWS is needed.
     fn revise<const ROWS: usize>(pairs: &Pairs, g: usize, f: usize, own: &Own, old: u32) -> u32;
 }
@@ -114,6 +117,31 @@ impl Revise for NarrowUnion {
     }
 }
 
+/// One of these ways with the lowest changed field first.
+pub struct LowestFirst<R>(PhantomData<R>);
+
+impl Revise for LowestFirst<CoveringUnion> {
+    const NAME: &'static str = "union, stops when it covers, lowest field first";
+    const LOWEST_FIRST: bool = true;
+
+    #[inline(always)]
+    fn revise<const ROWS: usize>(pairs: &Pairs, g: usize, f: usize, own: &Own, old: u32) -> u32 {
+        CoveringUnion::revise::<ROWS>(pairs, g, f, own, old)
+    }
+}
+
+impl Revise for LowestFirst<NarrowUnion> {
+    const NAME: &'static str = "branch-free union, 8 rows or 24, lowest field first";
+    const READS_WORDS: bool = true;
+    const NARROWS: bool = true;
+    const LOWEST_FIRST: bool = true;
+
+    #[inline(always)]
+    fn revise<const ROWS: usize>(pairs: &Pairs, g: usize, f: usize, own: &Own, old: u32) -> u32 {
+        BranchFreeUnion::revise::<ROWS>(pairs, g, f, own, old)
+    }
+}
+
 /// The union of the first ROWS rows, each cut by its word, four side by side.
 #[inline(always)]
 fn cut_union<const ROWS: usize>(rows: &Row, words: &Row) -> u32 {
@@ -173,7 +201,7 @@ impl<R: Revise> Closing for Pairwise<R> {
         let mut own = Own { mask: 0, words: [0; MOST] };
         let mut touched = 0;
         let mut changed = Changed::new(changed);
-        while let Some(g) = changed.take() {
+        while let Some(g) = changed.take(R::LOWEST_FIRST) {
             own.mask = domains[g];
             if R::READS_WORDS {
                 spread(own.mask, &mut own.words);
