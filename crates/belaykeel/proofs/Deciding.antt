@@ -43,7 +43,7 @@ use Rattle.session.proofs.Session as S
 use Rattle.session.proofs.Session.Laws as S′
 use Rattle.session.proofs.Outcome as O
 use Rattle.session.proofs.Outcome.Laws as O′
-use Rattle.calls.proofs.choose as inner
+use Rattle.decision_calls.proofs.choose as inner
 use Rattle.belaykeel.proofs.belaykeel_choose as outer
 use Rattle.belaykeel.proofs.Walk.{value, bytes, words, copies, lent, lent-vals, number, slice, told, slice-told, at, upto, allocates, here, held, part, pointer, _&_, freed}
 use Rattle.belaykeel.proofs.Walk.{mach, code, session-typed, session-open, session-shut, outcome-lands, sums-up, Promise, asks-no-more, returned, answers}

@@ -18,7 +18,7 @@ pub extern "C" fn belaykeel_open(
 ) -> u32
     ensures { λ r. ⌜ Answers Call.Open (now (session .entry)) (now (sheet .entry)) engine (now (order .entry)) (now (offers .entry)) (now (rows .entry)) (now (memory .entry)) r (now (session .exit)) (now (offers .exit)) (now (rows .exit)) (now (memory .exit)) ⌝ }
 {
-    let out = calls::open(*session, sheet, engine, order, offers, rows, memory);
+    let out = session_calls::open(*session, sheet, engine, order, offers, rows, memory);
     *session = out.session;
     out.number
 }
@@ -35,7 +35,7 @@ pub extern "C" fn belaykeel_show(
 ) -> u32
     ensures { λ r. ⌜ Answers Call.Show (now (session .entry)) (now (sheet .entry)) engine (now (order .entry)) (now (offers .entry)) (now (rows .entry)) (now (memory .entry)) r (now (session .exit)) (now (offers .exit)) (now (rows .exit)) (now (memory .exit)) ⌝ }
 {
-    let out = calls::show(*session, sheet, engine, order, offers, rows, memory);
+    let out = session_calls::show(*session, sheet, engine, order, offers, rows, memory);
     *session = out.session;
     out.number
 }
@@ -54,7 +54,7 @@ pub extern "C" fn belaykeel_choose(
 ) -> u32
     ensures { λ r. ⌜ Answers (Call.Choose field position) (now (session .entry)) (now (sheet .entry)) engine (now (order .entry)) (now (offers .entry)) (now (rows .entry)) (now (memory .entry)) r (now (session .exit)) (now (offers .exit)) (now (rows .exit)) (now (memory .exit)) ⌝ }
 {
-    let out = calls::choose(
+    let out = decision_calls::choose(
         *session,
         sheet,
         engine,
@@ -83,7 +83,7 @@ pub extern "C" fn belaykeel_strike(
 ) -> u32
     ensures { λ r. ⌜ Answers (Call.Strike field position) (now (session .entry)) (now (sheet .entry)) engine (now (order .entry)) (now (offers .entry)) (now (rows .entry)) (now (memory .entry)) r (now (session .exit)) (now (offers .exit)) (now (rows .exit)) (now (memory .exit)) ⌝ }
 {
-    let out = calls::strike(
+    let out = decision_calls::strike(
         *session,
         sheet,
         engine,
@@ -112,7 +112,7 @@ pub extern "C" fn belaykeel_withdraw_choice(
 ) -> u32
     ensures { λ r. ⌜ Answers (Call.WithdrawChoice field position) (now (session .entry)) (now (sheet .entry)) engine (now (order .entry)) (now (offers .entry)) (now (rows .entry)) (now (memory .entry)) r (now (session .exit)) (now (offers .exit)) (now (rows .exit)) (now (memory .exit)) ⌝ }
 {
-    let out = calls::withdraw_choice(
+    let out = decision_calls::withdraw_choice(
         *session,
         sheet,
         engine,
@@ -141,7 +141,7 @@ pub extern "C" fn belaykeel_withdraw_strike(
 ) -> u32
     ensures { λ r. ⌜ Answers (Call.WithdrawStrike field position) (now (session .entry)) (now (sheet .entry)) engine (now (order .entry)) (now (offers .entry)) (now (rows .entry)) (now (memory .entry)) r (now (session .exit)) (now (offers .exit)) (now (rows .exit)) (now (memory .exit)) ⌝ }
 {
-    let out = calls::withdraw_strike(
+    let out = decision_calls::withdraw_strike(
         *session,
         sheet,
         engine,
@@ -168,7 +168,7 @@ pub extern "C" fn belaykeel_back(
 ) -> u32
     ensures { λ r. ⌜ Answers Call.Back (now (session .entry)) (now (sheet .entry)) engine (now (order .entry)) (now (offers .entry)) (now (rows .entry)) (now (memory .entry)) r (now (session .exit)) (now (offers .exit)) (now (rows .exit)) (now (memory .exit)) ⌝ }
 {
-    let out = calls::back(*session, sheet, engine, order, offers, rows, memory);
+    let out = session_calls::back(*session, sheet, engine, order, offers, rows, memory);
     *session = out.session;
     out.number
 }
@@ -185,7 +185,7 @@ pub extern "C" fn belaykeel_coil_on(
 ) -> u32
     ensures { λ r. ⌜ Answers Call.CoilOn (now (session .entry)) (now (sheet .entry)) engine (now (order .entry)) (now (offers .entry)) (now (rows .entry)) (now (memory .entry)) r (now (session .exit)) (now (offers .exit)) (now (rows .exit)) (now (memory .exit)) ⌝ }
 {
-    let out = calls::coil_on(*session, sheet, engine, order, offers, rows, memory);
+    let out = session_calls::coil_on(*session, sheet, engine, order, offers, rows, memory);
     *session = out.session;
     out.number
 }

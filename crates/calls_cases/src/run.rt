@@ -1,17 +1,17 @@
 // A call run on a sheet.
 use super::line;
-use calls::back;
-use calls::choose;
-use calls::coil_on;
-use calls::open;
-use calls::show;
-use calls::strike;
-use calls::withdraw_choice;
-use calls::withdraw_strike;
+use decision_calls::choose;
+use decision_calls::strike;
+use decision_calls::withdraw_choice;
+use decision_calls::withdraw_strike;
 use ledger::Call;
 use session::Event;
 use session::Outcome;
 use session::Session;
+use session_calls::back;
+use session_calls::coil_on;
+use session_calls::open;
+use session_calls::show;
 
 // The least words of the work spaces.
 pub const ROWS_WORDS: usize = 13248;

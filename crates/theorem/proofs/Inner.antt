@@ -13,22 +13,22 @@ use denote.Triple.Clauses.{AtExit}
 use Rattle.session.specs.declared.Session.{Session}
 use Rattle.session.specs.declared.Outcome.{Outcome}
 use Rattle.ledger.specs.declared.Call.{Call}
-use Rattle.calls.proofs.open.Kinds as open-kinds
-use Rattle.calls.proofs.open.Reads as open-reads
-use Rattle.calls.proofs.show.Kinds as show-kinds
-use Rattle.calls.proofs.show.Reads as show-reads
-use Rattle.calls.proofs.choose.Kinds as choose-kinds
-use Rattle.calls.proofs.choose.Reads as choose-reads
-use Rattle.calls.proofs.strike.Kinds as strike-kinds
-use Rattle.calls.proofs.strike.Reads as strike-reads
-use Rattle.calls.proofs.withdraw_choice.Kinds as withdraw-choice-kinds
-use Rattle.calls.proofs.withdraw_choice.Reads as withdraw-choice-reads
-use Rattle.calls.proofs.withdraw_strike.Kinds as withdraw-strike-kinds
-use Rattle.calls.proofs.withdraw_strike.Reads as withdraw-strike-reads
-use Rattle.calls.proofs.back.Kinds as back-kinds
-use Rattle.calls.proofs.back.Reads as back-reads
-use Rattle.calls.proofs.coil_on.Kinds as coil-on-kinds
-use Rattle.calls.proofs.coil_on.Reads as coil-on-reads
+use Rattle.session_calls.proofs.open.Kinds as open-kinds
+use Rattle.session_calls.proofs.open.Reads as open-reads
+use Rattle.session_calls.proofs.show.Kinds as show-kinds
+use Rattle.session_calls.proofs.show.Reads as show-reads
+use Rattle.decision_calls.proofs.choose.Kinds as choose-kinds
+use Rattle.decision_calls.proofs.choose.Reads as choose-reads
+use Rattle.decision_calls.proofs.strike.Kinds as strike-kinds
+use Rattle.decision_calls.proofs.strike.Reads as strike-reads
+use Rattle.decision_calls.proofs.withdraw_choice.Kinds as withdraw-choice-kinds
+use Rattle.decision_calls.proofs.withdraw_choice.Reads as withdraw-choice-reads
+use Rattle.decision_calls.proofs.withdraw_strike.Kinds as withdraw-strike-kinds
+use Rattle.decision_calls.proofs.withdraw_strike.Reads as withdraw-strike-reads
+use Rattle.session_calls.proofs.back.Kinds as back-kinds
+use Rattle.session_calls.proofs.back.Reads as back-reads
+use Rattle.session_calls.proofs.coil_on.Kinds as coil-on-kinds
+use Rattle.session_calls.proofs.coil_on.Reads as coil-on-reads
 use Rattle.theorem.specs.Turns.{Turn, Answered, plain, deciding}
 
 -- κs are the lifetimes of the slices, a the arguments, r the outcome, and e the parameters at exit

@@ -1,7 +1,7 @@
 -- `back` is the answer to its call.
 use borrow.Author.Needs.{needs}
-use Rattle.calls.proofs.back.Statement.{statement}
-use Rattle.calls.proofs.back.Tie as tie
+use Rattle.session_calls.proofs.back.Statement.{statement}
+use Rattle.session_calls.proofs.back.Tie as tie
 
 returns : tie.Need-returns
 returns c = c .before .before .before .before .before .before .answer .ensures

@@ -1,7 +1,7 @@
 -- `choose` is the answer to its call.
 use borrow.Author.Needs.{needs}
-use Rattle.calls.proofs.choose.Statement.{statement}
-use Rattle.calls.proofs.choose.Tie as tie
+use Rattle.decision_calls.proofs.choose.Statement.{statement}
+use Rattle.decision_calls.proofs.choose.Tie as tie
 
 returns : tie.Need-returns
 returns c = c .before .before .before .before .before .before .answer .ensures

@@ -1,7 +1,7 @@
 -- `open` is the answer to its call.
 use borrow.Author.Needs.{needs}
-use Rattle.calls.proofs.open.Statement.{statement}
-use Rattle.calls.proofs.open.Tie as tie
+use Rattle.session_calls.proofs.open.Statement.{statement}
+use Rattle.session_calls.proofs.open.Tie as tie
 
 returns : tie.Need-returns
 returns c = c .before .before .before .before .before .before .answer .ensures

@@ -1,7 +1,7 @@
 -- `strike` is the answer to its call.
 use borrow.Author.Needs.{needs}
-use Rattle.calls.proofs.strike.Statement.{statement}
-use Rattle.calls.proofs.strike.Tie as tie
+use Rattle.decision_calls.proofs.strike.Statement.{statement}
+use Rattle.decision_calls.proofs.strike.Tie as tie
 
 returns : tie.Need-returns
 returns c = c .before .before .before .before .before .before .answer .ensures

@@ -1,7 +1,7 @@
 -- `withdraw_choice` is the answer to its call.
 use borrow.Author.Needs.{needs}
-use Rattle.calls.proofs.withdraw_choice.Statement.{statement}
-use Rattle.calls.proofs.withdraw_choice.Tie as tie
+use Rattle.decision_calls.proofs.withdraw_choice.Statement.{statement}
+use Rattle.decision_calls.proofs.withdraw_choice.Tie as tie
 
 returns : tie.Need-returns
 returns c = c .before .before .before .before .before .before .answer .ensures

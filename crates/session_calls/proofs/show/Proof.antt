@@ -1,7 +1,7 @@
 -- `show` is the answer to its call.
 use borrow.Author.Needs.{needs}
-use Rattle.calls.proofs.show.Statement.{statement}
-use Rattle.calls.proofs.show.Tie as tie
+use Rattle.session_calls.proofs.show.Statement.{statement}
+use Rattle.session_calls.proofs.show.Tie as tie
 
 returns : tie.Need-returns
 returns c = c .before .before .before .before .before .before .answer .ensures
