@@ -40,8 +40,8 @@ type Left = (u32, Session, [u32; 24]);
 const NO_OFFERS: u32 = 0xA5C3_0F1E;
 
 impl Contestant {
-    fn new(role: Role, name: &'static str, library: impl Library + 'static) -> Contestant {
-        Contestant { role, name, library: Box::new(library), lent: Lent::default() }
+    fn new(role: Role, name: &'static str, library: Box<dyn Library>) -> Contestant {
+        Contestant { role, name, library, lent: Lent::default() }
     }
 
     fn engine(&self) -> u32 {
@@ -68,13 +68,16 @@ impl Contestant {
     }
 }
 
-fn plain<C: Closing + 'static>() -> Contestant {
-    Contestant::new(Role::PlainSac1, C::NAME, Plain::<Solver<C>>::sac1())
+/// A plain library with its name.
+type Named = (&'static str, Box<dyn Library>);
+
+fn plain<C: Closing + 'static>() -> Named {
+    (C::NAME, Box::new(Plain::<Solver<C>>::sac1()))
 }
 
-/// Every plain library, with tables wide enough for a count of fields: `L` and `G` revise all neighbours at once.
-fn plains<L: Closing + 'static, G: Closing + 'static>(reach: u32) -> Vec<Contestant> {
-    let mut all = vec![
+/// The plain libraries with SAC-1, where `L` and `G` revise all neighbours at once and are wide enough for the sheets.
+pub fn plain_sac1<L: Closing + 'static, G: Closing + 'static>() -> Vec<Named> {
+    vec![
         plain::<Pairwise<SupportTests>>(),
         plain::<Pairwise<Union>>(),
         plain::<Pairwise<CoveringUnion>>(),
@@ -84,10 +87,18 @@ fn plains<L: Closing + 'static, G: Closing + 'static>(reach: u32) -> Vec<Contest
         plain::<Pairwise<LowestFirst<NarrowUnion>>>(),
         plain::<L>(),
         plain::<G>(),
-        Contestant::new(Role::PlainOther, "plain queue", Plain::new(Solver::<G>::default(), Solver::queued)),
-    ];
+    ]
+}
+
+/// Every plain library for sheets of this reach.
+fn plains<L: Closing + 'static, G: Closing + 'static>(reach: u32) -> Vec<Contestant> {
+    let sac1 = plain_sac1::<L, G>().into_iter();
+    let mut all: Vec<Contestant> = sac1.map(|(name, library)| Contestant::new(Role::PlainSac1, name, library)).collect();
+    let queue = Plain::new(Solver::<G>::default(), Solver::queued);
+    all.push(Contestant::new(Role::PlainOther, "plain queue", Box::new(queue)));
     if reach == 24 {
-        all.push(Contestant::new(Role::PlainOther, "plain SAC-2", Plain::new(Remembering::<G>::default(), Remembering::sac2)));
+        let sac2 = Plain::new(Remembering::<G>::default(), Remembering::sac2);
+        all.push(Contestant::new(Role::PlainOther, "plain SAC-2", Box::new(sac2)));
     }
     all
 }
@@ -95,7 +106,7 @@ fn plains<L: Closing + 'static, G: Closing + 'static>(reach: u32) -> Vec<Contest
 /// All libraries for sheets of this size and reach, the proved one first.
 pub fn contestants(fields: usize, reach: u32) -> Vec<Contestant> {
     let engines: &[u32] = if reach == 24 { &[1, 2, 3] } else { &[1, 3] };
-    let mut all: Vec<Contestant> = engines.iter().map(|&engine| Contestant::new(Role::Proved(engine), "proved", Linked)).collect();
+    let mut all: Vec<Contestant> = engines.iter().map(|&engine| Contestant::new(Role::Proved(engine), "proved", Box::new(Linked))).collect();
     all.extend(match fields {
         0..=8 => plains::<Lanes<8>, GroupedLanes<8, 3>>(reach),
         9..=12 => plains::<Lanes<12>, GroupedLanes<12, 4>>(reach),

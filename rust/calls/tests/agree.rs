@@ -4,13 +4,11 @@
 use belaykeel::raw::Arguments;
 use belaykeel::Session;
 use calls::classes::{Sheets, Source};
-use calls::measure::{agree, contestants};
+use calls::measure::{agree, contestants, plain_sac1};
 use calls::mill::MILLS;
 use calls::plain::Plain;
 use calls::task::CALLS;
-use engines::plain::closing::Closing;
 use engines::plain::lanes::{GroupedLanes, Lanes};
-use engines::plain::pairs::{BranchFreeUnion, CoveringUnion, LowestFirst, NarrowUnion, Pairwise, SupportTests, Union};
 use engines::plain::Solver;
 use engines::sheets::Class;
 use tests::case::{Given, Step};
@@ -21,25 +19,13 @@ use tests::steps::{next, opening, Habits};
 use tests::tally::Tally;
 use tests::{forge, taste, Random};
 
-fn plain<C: Closing + 'static>() -> Box<dyn Library> {
-    Box::new(Plain::<Solver<C>>::sac1())
-}
-
 /// Every plain library for sheets of any size and reach.
 fn plains() -> Vec<Box<dyn Library>> {
     let queue = Plain::new(Solver::<GroupedLanes<24, 4>>::default(), Solver::queued);
-    vec![
-        plain::<Pairwise<SupportTests>>(),
-        plain::<Pairwise<Union>>(),
-        plain::<Pairwise<CoveringUnion>>(),
-        plain::<Pairwise<LowestFirst<CoveringUnion>>>(),
-        plain::<Pairwise<BranchFreeUnion>>(),
-        plain::<Pairwise<NarrowUnion>>(),
-        plain::<Pairwise<LowestFirst<NarrowUnion>>>(),
-        plain::<Lanes<24>>(),
-        plain::<GroupedLanes<24, 4>>(),
-        Box::new(queue),
-    ]
+    let sac1 = plain_sac1::<Lanes<24>, GroupedLanes<24, 4>>();
+    let mut all: Vec<Box<dyn Library>> = sac1.into_iter().map(|(_, library)| library).collect();
+    all.push(Box::new(queue));
+    all
 }
 
 /// What a library leaves: the number, the session and the offers list.
