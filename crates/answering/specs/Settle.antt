@@ -25,8 +25,8 @@ use Rattle.accepted.specs.Parts.{fieldsOf, countOf, reachOf}
 use Rattle.accepted.specs.Facts.{facts}
 use Rattle.network.specs.Tables.{bothTables}
 use Rattle.network.specs.SheetProblem.{sheetProblem}
+use Rattle.visiting.specs.Store.{memoryWords}
 use Rattle.engines.specs.Engine.{IsOrder, Offered}
-use Rattle.engines.specs.Store.{memoryWords}
 use Rattle.offering.specs.Offering.{OfferAsks}
 use Rattle.ledger.specs.Ledger.{Decision, starts, startSet, offersOf, wiped, isOrder}
 use Rattle.ledger.specs.Lists.{tabulate, length-tabulate, getD-tabulate}

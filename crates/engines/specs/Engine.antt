@@ -19,7 +19,7 @@ use Rattle.consistency.specs.Order.{offers-in-closing, offers-of-closing}
 use Rattle.closing.specs.Shrunk.{Shrunk, shrunk-none, shrunk-then, or-within}
 use Rattle.closing.specs.Close.{Ready, Closes}
 use Rattle.closing.specs.Frame.{Live, wiped-by, wiped-same}
-use Rattle.engines.specs.Visit.{Visited}
+use Rattle.visiting.specs.Visit.{Visited}
 
 -- What the engines ask of an order: n places, and every field at one. 01's order, `isOrder` of the ledger, is one (`order-low`, `order-every`).
 pub record IsOrder (n : ℕ) (order : List ℕ) : Type 0 where

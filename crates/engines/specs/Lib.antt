@@ -1,5 +1,3 @@
-pub mod Store
-pub mod Visit
 pub mod Engine
 pub mod EngineAsks
 pub mod Pass

@@ -13,7 +13,7 @@ use Rattle.masks.specs.Bits.{bit, bit-of-zero}
 use Rattle.consistency.specs.Problem.{Problem}
 use Rattle.closing.specs.Shrunk.{zero-or, shrunk-still}
 use Rattle.closing.specs.Frame.{Live}
-use Rattle.engines.specs.Visit.{Visited}
+use Rattle.visiting.specs.Visit.{Visited}
 use Rattle.engines.specs.Engine.{IsOrder, Kept, kept-start, kept-then, kept-wiped, Wiped, visit-kept, visit-wiped, FieldPasses}
 
 module _ (P : Problem) (order hood S0 : List ℕ) where

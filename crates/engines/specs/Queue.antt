@@ -17,7 +17,7 @@ use Rattle.consistency.specs.Problem.{Problem, allFields, in-allFields, allFiel
 use Rattle.network.specs.Tables.{problemOf}
 use Rattle.closing.specs.Shrunk.{or-within, zero-or, shrunk-still, shrunk-fewer}
 use Rattle.closing.specs.Frame.{Live, passes-same}
-use Rattle.engines.specs.Visit.{Visited}
+use Rattle.visiting.specs.Visit.{Visited}
 use Rattle.engines.specs.Engine.{IsOrder, Hoods, Kept, kept-start, kept-then, kept-wiped, Wiped, visit-kept, visit-wiped, FieldPasses}
 use Rattle.engines.specs.EngineAsks.{Lent}
 

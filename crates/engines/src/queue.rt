@@ -3,19 +3,19 @@ ghost use Rattle.masks.specs.Bits.{Within};
 ghost use Rattle.consistency.specs.Problem.{allFields};
 ghost use Rattle.network.specs.Tables.{problemOf};
 ghost use Rattle.closing.specs.Asks.{LiveAsks};
+ghost use Rattle.visiting.specs.Store.{memoryWords, Store};
 ghost use Rattle.engines.specs.Engine.{Engine};
 ghost use Rattle.engines.specs.EngineAsks.{StartAsks, Lent};
 ghost use Rattle.engines.specs.Queue.{Back, BackAsks, Rounded};
-ghost use Rattle.engines.specs.Store.{memoryWords, Store};
 ghost use Prim.Native.Nat.{_≤_};
 ghost use lib.ListN.{length};
 use super::sac::begin;
 use super::sac::field_at;
-use super::visit::visit;
 use masks::clear_bit;
 use masks::has_bit;
 use masks::lowest_bit;
 use network::hoods::all_fields;
+use visiting::visit::visit;
 
 // The reach at which the neighbourhood is every field.
 const WHOLE_REACH: usize = 24;

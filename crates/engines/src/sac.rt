@@ -5,15 +5,15 @@ ghost use Prim.Native.Nat.{_≤_, _<_};
 ghost use lib.ListN.{length, getD};
 ghost use Rattle.network.specs.Tables.{problemOf};
 ghost use Rattle.closing.specs.Asks.{LiveAsks};
+ghost use Rattle.visiting.specs.Store.{memoryWords, Store};
 ghost use Rattle.engines.specs.Engine.{Begun, Engine};
 ghost use Rattle.engines.specs.EngineAsks.{StartAsks, Lent};
 ghost use Rattle.engines.specs.Pass.{Passed};
-ghost use Rattle.engines.specs.Store.{memoryWords, Store};
-use super::visit::visit;
 use closing::close::Narrowed;
 use closing::close::close;
 use masks::Domains;
 use network::hoods::all_fields;
+use visiting::visit::visit;
 
 // How every engine starts: where no field is empty, it closes over every field. Whether the set is wiped out already.
 pub fn begin<'a>(

@@ -13,9 +13,9 @@ use Rattle.network.specs.Tables.{problemOf, tableWords, bothTables, forwardOf, 
 use Rattle.network.specs.SheetProblem.{sheetProblem}
 use Rattle.network.specs.Network.{NetworkOf}
 use Rattle.closing.specs.Asks.{Masks}
+use Rattle.visiting.specs.Store.{memoryWords}
 use Rattle.engines.specs.Engine.{IsOrder, Offered, Engine}
 use Rattle.engines.specs.EngineAsks.{StartAsks, Lent}
-use Rattle.engines.specs.Store.{memoryWords}
 use Rattle.engines.specs.Answers.{network-hoods, answers}
 
 -- An accepted sheet at the front of the memory, an order of its fields, settings of its fields only, and room enough.

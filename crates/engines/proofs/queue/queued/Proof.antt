@@ -7,10 +7,10 @@ use Rattle.masks.specs.Sets.{count}
 use Rattle.consistency.specs.Problem.{allFields}
 use Rattle.network.specs.Tables.{problemOf}
 use Rattle.closing.specs.Asks.{fields-small}
+use Rattle.visiting.specs.Store.{Store, store-start}
 use Rattle.engines.specs.Engine.{kept-wiped, begun-engine, engine-none, engine-done}
 use Rattle.engines.specs.EngineAsks.{begun-asks, kept-asks}
 use Rattle.engines.specs.Queue.{Turning, turning-start, turning-turn, turning-less}
-use Rattle.engines.specs.Store.{Store, store-start}
 use Rattle.engines.proofs.queue.queued.Statement.{statement}
 use Rattle.engines.proofs.queue.queued.Tie as tie
 

@@ -5,9 +5,9 @@ use borrow.Author.Needs.{needs}
 use lib.ListN.{length}
 use Rattle.masks.specs.Words.{clear-within}
 use Rattle.network.specs.Tables.{problemOf}
+use Rattle.visiting.specs.Store.{Store}
 use Rattle.engines.specs.EngineAsks.{order-low, visit-asks, kept-asks}
 use Rattle.engines.specs.Queue.{Waiting, waiting-start, waiting-skip, waiting-none, waiting-turn, waiting-end, back-asks}
-use Rattle.engines.specs.Store.{Store}
 use Rattle.engines.proofs.queue.round.Statement.{statement}
 use Rattle.engines.proofs.queue.round.Tie as tie
 

@@ -4,9 +4,9 @@ use Prim.Native.Nat.{_≤_, _-_}
 use borrow.Author.Needs.{needs}
 use lib.ListN.{length}
 use Rattle.network.specs.Tables.{problemOf}
+use Rattle.visiting.specs.Store.{Store}
 use Rattle.engines.specs.EngineAsks.{order-low, visit-asks, kept-asks}
 use Rattle.engines.specs.Pass.{Passing, passing-start, passing-none, passing-turn, passing-end}
-use Rattle.engines.specs.Store.{Store}
 use Rattle.engines.proofs.sac.pass.Statement.{statement}
 use Rattle.engines.proofs.sac.pass.Tie as tie
 

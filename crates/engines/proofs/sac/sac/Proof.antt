@@ -5,9 +5,9 @@ use lib.ListN.{length}
 use Rattle.masks.specs.Sets.{count}
 use Rattle.network.specs.Tables.{problemOf}
 use Rattle.closing.specs.Shrunk.{shrunk-fewer}
+use Rattle.visiting.specs.Store.{Store, store-start}
 use Rattle.engines.specs.Engine.{Kept, kept-start, kept-then, kept-wiped, begun-engine, engine-none, engine-done}
 use Rattle.engines.specs.EngineAsks.{begun-asks, kept-asks}
-use Rattle.engines.specs.Store.{Store, store-start}
 use Rattle.engines.proofs.sac.sac.Statement.{statement}
 use Rattle.engines.proofs.sac.sac.Tie as tie
 

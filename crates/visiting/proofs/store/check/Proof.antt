@@ -4,10 +4,10 @@ use native.Mathlib.Omega.{arith}
 use borrow.Author.Tests.{not-true, not-false}
 use Rattle.masks.specs.Sets.{has}
 use Rattle.closing.specs.Asks.{place-bound, cut-asks}
-use Rattle.engines.specs.Store.{memory-bound, shows-passes, left-shows, store-add}
+use Rattle.visiting.specs.Store.{memory-bound, shows-passes, left-shows, store-add}
 use borrow.Author.Needs.{needs}
-use Rattle.engines.proofs.store.check.Statement.{statement}
-use Rattle.engines.proofs.store.check.Tie as tie
+use Rattle.visiting.proofs.store.check.Statement.{statement}
+use Rattle.visiting.proofs.store.check.Tie as tie
 
 mul-within : tie.Need-mul-within
 mul-within c = let l = place-bound _ _ _ _ _ (c .before .before .before .pre .0 .0) _ _ (c .before .before .before .pre .1 .2) .1 in omega arith

@@ -8,9 +8,9 @@ use borrow.Author.Needs.{needs}
 use borrow.Author.Tests.{eqb-true}
 use lib.Dec.{eqb}
 use lib.ListN.{getD}
-use Rattle.engines.specs.Store.{lackBelow, lack-none, lack-next, lack-inside}
-use Rattle.engines.proofs.store.intact.Statement.{statement}
-use Rattle.engines.proofs.store.intact.Tie as tie
+use Rattle.visiting.specs.Store.{lackBelow, lack-none, lack-next, lack-inside}
+use Rattle.visiting.proofs.store.intact.Statement.{statement}
+use Rattle.visiting.proofs.store.intact.Tie as tie
 
 abbrev Inv-loop : tie.InvT-loop
 Inv-loop memory base m lack₀ h₀ lack h = (h ≤ 24) × (lack ≡ lackBelow h memory base m) × ((j : ℕ) → j < h → getD memory (base + j) 0 < 2 ^ 32)

@@ -9,7 +9,7 @@ ghost use Rattle.masks.specs.Sets.{has, _⊆_};
 ghost use Rattle.consistency.specs.Problem.{allFields};
 ghost use Rattle.network.specs.Tables.{problemOf};
 ghost use Rattle.closing.specs.Asks.{Masks, LiveAsks};
-ghost use Rattle.engines.specs.Store.{recall, lackBelow, Store, Checked};
+ghost use Rattle.visiting.specs.Store.{recall, lackBelow, Store, Checked};
 use closing::test::test;
 use masks::Domains;
 use masks::has_bit;

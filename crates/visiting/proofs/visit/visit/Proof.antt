@@ -8,10 +8,10 @@ use lib.ListN.{length, getD}
 use Rattle.masks.specs.Words.{clear-lt}
 use Rattle.network.specs.Tables.{problemOf}
 use Rattle.closing.specs.Asks.{asks-shrunk}
-use Rattle.engines.specs.Store.{Store}
-use Rattle.engines.specs.Visit.{Visiting, visiting-start, visiting-has, visiting-pass, visiting-none, visiting-fail, visiting-end}
-use Rattle.engines.proofs.visit.visit.Statement.{statement}
-use Rattle.engines.proofs.visit.visit.Tie as tie
+use Rattle.visiting.specs.Store.{Store}
+use Rattle.visiting.specs.Visit.{Visiting, visiting-start, visiting-has, visiting-pass, visiting-none, visiting-fail, visiting-end}
+use Rattle.visiting.proofs.visit.visit.Statement.{statement}
+use Rattle.visiting.proofs.visit.visit.Tie as tie
 
 abbrev Inv-loop : tie.InvT-loop
 Inv-loop m₀ known₀ memory₀ remembers n f hood joined forward turned touched₀ left₀ m known memory touched left =
