@@ -1,5 +1,4 @@
 pub mod Answer
-pub mod Changes
 pub mod Settle
 pub mod Stepping
 pub mod Answering

@@ -1,4 +1,3 @@
 // The answer to a call, from the session by value.
-pub mod judge; // judge.rt: the causes 15 and 7 to 13
 pub mod settle; // settle.rt: the offers, found and written
 pub mod answer; // answer.rt: the answer to any call

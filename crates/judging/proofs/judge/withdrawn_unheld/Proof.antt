@@ -3,10 +3,10 @@ use native.Mathlib.Omega.{arith}
 use Rattle.session.specs.Decisions.{heldIn, decisionOf}
 use Rattle.session.specs.Events.{ofStrike}
 use Rattle.session.specs.declared.decisions.Decisions.{Decisions}
-use Rattle.answering.specs.Changes.{not-withdrawn, is-unheld}
+use Rattle.judging.specs.Changes.{not-withdrawn, is-unheld}
 use borrow.Author.Needs.{needs}
-use Rattle.answering.proofs.judge.withdrawn_unheld.Statement.{statement}
-use Rattle.answering.proofs.judge.withdrawn_unheld.Tie as tie
+use Rattle.judging.proofs.judge.withdrawn_unheld.Statement.{statement}
+use Rattle.judging.proofs.judge.withdrawn_unheld.Tie as tie
 
 returns : tie.Need-returns
 returns c = not-withdrawn _ _ _ _ (c .before .pre .0) (c .if1 .taken)

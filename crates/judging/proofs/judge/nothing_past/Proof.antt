@@ -4,8 +4,8 @@ use Prim.Native.Nat.{ℕ}
 use lib.Dec.{eqb}
 use Rattle.session.specs.Events.{length-past}
 use borrow.Author.Needs.{needs}
-use Rattle.answering.proofs.judge.nothing_past.Statement.{statement}
-use Rattle.answering.proofs.judge.nothing_past.Tie as tie
+use Rattle.judging.proofs.judge.nothing_past.Statement.{statement}
+use Rattle.judging.proofs.judge.nothing_past.Tie as tie
 
 is-back-requires : tie.Need-is-back-requires
 is-back-requires c κs = search needs

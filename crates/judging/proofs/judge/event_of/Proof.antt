@@ -1,10 +1,10 @@
 use mathlib.Core.Path.{_≡_, refl, sym, ap, _∙_}
 use native.Mathlib.Omega.{arith}
 use Rattle.masks.specs.Pick.{pick}
-use Rattle.answering.specs.Changes.{changeBy}
+use Rattle.judging.specs.Changes.{changeBy}
 use borrow.Author.Needs.{needs}
-use Rattle.answering.proofs.judge.event_of.Statement.{statement}
-use Rattle.answering.proofs.judge.event_of.Tie as tie
+use Rattle.judging.proofs.judge.event_of.Statement.{statement}
+use Rattle.judging.proofs.judge.event_of.Tie as tie
 
 enum-told : tie.Need-enum-told
 enum-told c = search needs

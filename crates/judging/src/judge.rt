@@ -8,7 +8,7 @@ ghost use Rattle.accepted.specs.Parts.{reachOf};
 ghost use Rattle.ledger.specs.Ledger.{changeOf, isOpen, isBack, malformed, unknownArgument, addedAgain, withdrawnUnheld, nothingPast, noRoom, first, judged};
 ghost use Rattle.session.specs.Events.{past};
 ghost use Rattle.session.specs.View.{decisionsOf, decisionsIn, view};
-ghost use Rattle.answering.specs.Changes.{changeIn, Low};
+ghost use Rattle.judging.specs.Changes.{changeIn, Low};
 use accepted::parts;
 use ledger::Call;
 use session::Event;

@@ -1,6 +1,6 @@
-use Rattle.answering.specs.Changes.{no-event, an-event}
-use Rattle.answering.proofs.judge.no_room.Statement.{statement}
-use Rattle.answering.proofs.judge.no_room.Tie as tie
+use Rattle.judging.specs.Changes.{no-event, an-event}
+use Rattle.judging.proofs.judge.no_room.Statement.{statement}
+use Rattle.judging.proofs.judge.no_room.Tie as tie
 
 returns : tie.Need-returns
 returns c = no-event _ _ _ _ _ (c .before .before .pre) (c .if1 .taken)

@@ -2,10 +2,10 @@ use mathlib.Core.Path.{_≡_, refl, sym, ap, _∙_}
 use mathlib.Core.Bool.{not}
 use Rattle.session.specs.View.{view}
 use Rattle.ledger.specs.Judging.{judged-15, judged-7, judged-8, judged-9, judged-10, judged-11, judged-13, judged-12, judged-0}
-use Rattle.answering.specs.Changes.{known-low}
+use Rattle.judging.specs.Changes.{known-low}
 use borrow.Author.Needs.{needs}
-use Rattle.answering.proofs.judge.judge.Statement.{statement}
-use Rattle.answering.proofs.judge.judge.Tie as tie
+use Rattle.judging.proofs.judge.judge.Statement.{statement}
+use Rattle.judging.proofs.judge.judge.Tie as tie
 
 malformed-requires : tie.Need-malformed-requires
 malformed-requires c κs = search needs

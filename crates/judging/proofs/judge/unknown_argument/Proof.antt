@@ -1,7 +1,7 @@
-use Rattle.answering.specs.Changes.{engine-wrong, engine-large, no-decision, a-decision}
+use Rattle.judging.specs.Changes.{engine-wrong, engine-large, no-decision, a-decision}
 use borrow.Author.Needs.{needs}
-use Rattle.answering.proofs.judge.unknown_argument.Statement.{statement}
-use Rattle.answering.proofs.judge.unknown_argument.Tie as tie
+use Rattle.judging.proofs.judge.unknown_argument.Statement.{statement}
+use Rattle.judging.proofs.judge.unknown_argument.Tie as tie
 
 returns : tie.Need-returns
 returns c = engine-wrong (c .before .before .args .numbers .now) _ _ (c .if1 .taken)

@@ -2,8 +2,8 @@ use mathlib.Core.Path.{_≡_, refl, sym, ap, _∙_}
 use mathlib.Core.Bool.{Bool, not, _&&_}
 use Rattle.ledger.specs.Ledger.{isOpen, malformed}
 use borrow.Author.Needs.{needs}
-use Rattle.answering.proofs.judge.malformed.Statement.{statement}
-use Rattle.answering.proofs.judge.malformed.Tie as tie
+use Rattle.judging.proofs.judge.malformed.Statement.{statement}
+use Rattle.judging.proofs.judge.malformed.Tie as tie
 
 is-open-requires : tie.Need-is-open-requires
 is-open-requires c κs = search needs

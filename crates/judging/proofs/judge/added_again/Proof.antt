@@ -3,10 +3,10 @@ use native.Mathlib.Omega.{arith}
 use Rattle.session.specs.Decisions.{heldIn, decisionOf}
 use Rattle.session.specs.Events.{ofStrike}
 use Rattle.session.specs.declared.decisions.Decisions.{Decisions}
-use Rattle.answering.specs.Changes.{not-added, is-again}
+use Rattle.judging.specs.Changes.{not-added, is-again}
 use borrow.Author.Needs.{needs}
-use Rattle.answering.proofs.judge.added_again.Statement.{statement}
-use Rattle.answering.proofs.judge.added_again.Tie as tie
+use Rattle.judging.proofs.judge.added_again.Statement.{statement}
+use Rattle.judging.proofs.judge.added_again.Tie as tie
 
 returns : tie.Need-returns
 returns c = not-added _ _ _ _ (c .before .pre .0) (λ q. let a = q .0 in let z = c .if1 .taken in omega arith)

@@ -2,8 +2,8 @@ use mathlib.Core.Path.{_≡_, refl, sym, ap, _∙_}
 use lib.Dec.{eqb, ltb}
 use mathlib.Core.Bool.{_&&_}
 use borrow.Author.Needs.{needs}
-use Rattle.answering.proofs.judge.too_narrow.Statement.{statement}
-use Rattle.answering.proofs.judge.too_narrow.Tie as tie
+use Rattle.judging.proofs.judge.too_narrow.Statement.{statement}
+use Rattle.judging.proofs.judge.too_narrow.Tie as tie
 
 reach-requires : tie.Need-reach-requires
 reach-requires c κs = search needs

@@ -1,0 +1,2 @@
+-- What the contracts of `judging` cite.
+pub mod Changes
