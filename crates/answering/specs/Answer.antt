@@ -11,7 +11,7 @@ use Rattle.ledger.specs.declared.Call.{Call}
 use Rattle.ledger.specs.Ledger.{Given, offersOf, step, tooShort, number}
 use Rattle.session.specs.declared.Session.{Session}
 use Rattle.session.specs.View.{view}
-use Rattle.session.specs.Steps.{stepped}
+use Rattle.stepping.specs.Steps.{stepped}
 
 -- the masks in front; later words are untouched
 abbrev pub written : List ℕ → List ℕ → List ℕ

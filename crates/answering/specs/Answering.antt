@@ -21,7 +21,7 @@ use Rattle.ledger.specs.declared.Call.the-variants.{Open, Show, Choose, Strike,
 use Rattle.ledger.specs.Ledger.{Given, Ledger, changeOf, step, wiped, offersOf, tooShort, number, first, judged, causes, isOrder}
 use Rattle.session.specs.declared.Session.{Session}
 use Rattle.session.specs.View.{view, decisionsOf, decisionsIn}
-use Rattle.session.specs.Steps.{stepped}
+use Rattle.stepping.specs.Steps.{stepped}
 use Rattle.ledger.specs.Laws.{Same, alike-wiped, alike-offers}
 use Rattle.session.specs.Decisions.{Long}
 use Rattle.ledger.specs.Judging.{Clear, causes-early, causes-14, causes-0}

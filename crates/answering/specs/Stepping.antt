@@ -20,7 +20,7 @@ use Rattle.session.specs.Decisions.{decisionOf, heldIn, Long}
 use Rattle.session.specs.Events.{eventBy, past, length-past, past-latest, canReverse, reverses}
 use Rattle.session.specs.View.{decisionsOf, decisionsIn, view}
 use Rattle.session.specs.Form.{on-low, on-either, event-off, event-stuck}
-use Rattle.session.specs.Steps.{stepped, latest, RecordAsks, BackAsks, StepAsks, view-step}
+use Rattle.stepping.specs.Steps.{stepped, latest, RecordAsks, BackAsks, StepAsks, view-step}
 use Rattle.ledger.specs.Judging.{Clear}
 
 module _ (xs : List ℕ) (a : Accepted xs) (engine : ℕ) (order : List ℕ) (s : Session) where

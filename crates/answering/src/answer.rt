@@ -8,8 +8,8 @@ use judging::judge::judge;
 use ledger::Call;
 use session::Outcome;
 use session::Session;
-use session::steps::step;
 use sheet::reading::read;
+use stepping::steps::step;
 
 // The words that the offers list and the work spaces must have.
 const OFFERS_WORDS: usize = 24;

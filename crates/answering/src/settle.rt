@@ -13,8 +13,8 @@ use accepted::parts;
 use offering::offer;
 use session::Outcome;
 use session::Session;
-use session::start::start;
-use session::steps::in_force;
+use stepping::start::start;
+use stepping::steps::in_force;
 
 // Wiped out under the decisions that would hold after the call.
 const WIPED_OUT: u32 = 14;

@@ -15,8 +15,8 @@ use session::Event;
 use session::Session;
 use session::decisions::held;
 use session::form;
-use session::order::is_order;
-use session::steps::in_force;
+use stepping::order::is_order;
+use stepping::steps::in_force;
 
 // The event that a call would add; kind 0 where it adds none.
 fn event_of(call: Call) -> Event

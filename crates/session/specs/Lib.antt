@@ -2,5 +2,3 @@ pub mod Decisions
 pub mod Events
 pub mod View
 pub mod Form
-pub mod Start
-pub mod Steps

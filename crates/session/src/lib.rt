@@ -1,9 +1,6 @@
 // The session: what the control room holds between calls. Decisions as masks, the past events and their count; no offers.
 pub mod decisions; // decisions.rt: a decision held, added, withdrawn; an event reversed
-pub mod order; // order.rt: whether a list is an order of the fields
 pub mod form; // form.rt: whether a session is malformed
-pub mod start; // start.rt: the start set
-pub mod steps; // steps.rt: the session after a call
 
 // An event: 1 and 2 are a choice and a strike added, 3 and 4 a choice and a strike withdrawn.
 #[repr(C)]

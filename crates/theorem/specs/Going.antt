@@ -24,7 +24,7 @@ use Rattle.session.specs.Decisions.{heldIn, gained, lost, Long, gained-long, lo
 use Rattle.session.specs.Events.{ofStrike, past, undone}
 use Rattle.session.specs.View.{decisionsIn, view, inForce-of}
 use Rattle.session.specs.Form.{undone-long}
-use Rattle.session.specs.Steps.{recorded, latest, stepped}
+use Rattle.stepping.specs.Steps.{recorded, latest, stepped}
 use Rattle.ledger.specs.Judging.{sheet-accepted, none-applies}
 use Rattle.answering.specs.Stepping.{shows-step}
 use Rattle.answering.specs.Settle.{offers-sized}

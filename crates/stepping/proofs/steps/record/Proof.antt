@@ -1,8 +1,8 @@
 use mathlib.Core.Path.{_≡_, sym, ap, _∙_}
-use Rattle.session.specs.Steps.{recorded-added, recorded-lost}
+use Rattle.stepping.specs.Steps.{recorded-added, recorded-lost}
 use borrow.Author.Needs.{needs}
-use Rattle.session.proofs.steps.record.Statement.{statement}
-use Rattle.session.proofs.steps.record.Tie as tie
+use Rattle.stepping.proofs.steps.record.Statement.{statement}
+use Rattle.stepping.proofs.steps.record.Tie as tie
 
 in-force-requires : tie.Need-in-force-requires
 in-force-requires c κs = search needs

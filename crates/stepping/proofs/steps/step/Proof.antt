@@ -1,10 +1,10 @@
 use mathlib.Core.Path.{_≡_, sym, ap, _∙_}
 use Rattle.ledger.specs.declared.Call.{Call}
 use Rattle.session.specs.declared.Session.{Session}
-use Rattle.session.specs.Steps.{begun, stepped}
+use Rattle.stepping.specs.Steps.{begun, stepped}
 use borrow.Author.Needs.{needs}
-use Rattle.session.proofs.steps.step.Statement.{statement}
-use Rattle.session.proofs.steps.step.Tie as tie
+use Rattle.stepping.proofs.steps.step.Statement.{statement}
+use Rattle.stepping.proofs.steps.step.Tie as tie
 
 -- the session after a call that is known
 by : (s : Session) {c k : Call} → c ≡ k → stepped c s ≡ stepped k s

@@ -5,12 +5,12 @@ ghost use Rattle.masks.specs.Sets.{pad};
 ghost use Rattle.sheet.specs.Judge.{Accepted};
 ghost use Rattle.accepted.specs.Parts.{fieldsOf};
 ghost use Rattle.ledger.specs.Ledger.{startSet};
 ghost use Rattle.session.specs.View.{decisionsOf};
-ghost use Rattle.session.specs.Start.{startMask};
-use super::decisions::Decisions;
+ghost use Rattle.stepping.specs.Start.{startMask};
 use accepted::parts;
 use masks::clear_bit;
 use masks::lowest_bit;
+use session::decisions::Decisions;
 
 // The start mask of a field with d settings: with no choice all that are not struck, with one choice the chosen one if it is not struck, with
 // two or more none.

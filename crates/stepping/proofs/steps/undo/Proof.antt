@@ -1,7 +1,7 @@
-use Rattle.session.specs.Steps.{stepped-back}
+use Rattle.stepping.specs.Steps.{stepped-back}
 use borrow.Author.Needs.{needs}
-use Rattle.session.proofs.steps.undo.Statement.{statement}
-use Rattle.session.proofs.steps.undo.Tie as tie
+use Rattle.stepping.proofs.steps.undo.Statement.{statement}
+use Rattle.stepping.proofs.steps.undo.Tie as tie
 
 sub-count : tie.Need-sub-count
 sub-count c = search needs

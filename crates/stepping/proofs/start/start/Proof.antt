@@ -4,9 +4,9 @@ use native.Mathlib.Omega.{arith}
 use borrow.Author.Needs.{needs}
 use Rattle.accepted.specs.Parts.{fieldsOf}
 use Rattle.accepted.specs.Facts.{facts}
-use Rattle.session.specs.Start.{Starting, starting-first, starting-next, starting-last}
-use Rattle.session.proofs.start.start.Statement.{statement}
-use Rattle.session.proofs.start.start.Tie as tie
+use Rattle.stepping.specs.Start.{Starting, starting-first, starting-next, starting-last}
+use Rattle.stepping.proofs.start.start.Statement.{statement}
+use Rattle.stepping.proofs.start.start.Tie as tie
 
 abbrev Inv-loop : tie.InvT-loop
 Inv-loop numbers n choices strikes m₀ f₀ m f = (f ≤ n) × Starting numbers (record { choices = choices; strikes = strikes }) f m

@@ -9,8 +9,8 @@ use borrow.Author.Needs.{needs}
 use Rattle.masks.specs.Masks.{digit}
 use Rattle.ledger.specs.Lists.{occurrences}
 use Rattle.ledger.specs.Orders.{occurs-none, counted, passed}
-use Rattle.session.proofs.order.occurrences.Statement.{statement}
-use Rattle.session.proofs.order.occurrences.Tie as tie
+use Rattle.stepping.proofs.order.occurrences.Statement.{statement}
+use Rattle.stepping.proofs.order.occurrences.Tie as tie
 
 abbrev Inv-loop : tie.InvT-loop
 Inv-loop order f times₀ q₀ times q = (q ≤ length order) × (times ≤ q) × (times ≡ occurrences f (take q order))

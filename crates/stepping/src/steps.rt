@@ -2,15 +2,15 @@
 ghost use mathlib.Core.Path.{_≡_};
 ghost use Prim.Native.Nat.{_<_, _≤_};
 ghost use Rattle.ledger.specs.declared.Call.the-variants.{Back};
 ghost use Rattle.session.specs.View.{decisionsIn};
-ghost use Rattle.session.specs.Steps.{begun, pushed, recorded, stepped, RecordAsks, BackAsks, StepAsks};
-use super::Event;
-use super::Session;
-use super::decisions::Decisions;
-use super::decisions::add;
-use super::decisions::reverse;
-use super::decisions::withdraw;
+ghost use Rattle.stepping.specs.Steps.{begun, pushed, recorded, stepped, RecordAsks, BackAsks, StepAsks};
 use ledger::Call;
+use session::Event;
+use session::Session;
+use session::decisions::Decisions;
+use session::decisions::add;
+use session::decisions::reverse;
+use session::decisions::withdraw;
 
 // The kinds of events.
 const CHOSEN: u32 = 1;

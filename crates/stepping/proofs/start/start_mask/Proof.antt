@@ -3,10 +3,10 @@ use lib.Bits.{bitAnd}
 use mathlib.Core.Path.{_≡_, sym, ap, _∙_}
 use native.Mathlib.Omega.{arith}
 use Rattle.masks.specs.Words.{clear}
-use Rattle.session.specs.Start.{all-code, start-free, start-one, start-none}
+use Rattle.stepping.specs.Start.{all-code, start-free, start-one, start-none}
 use borrow.Author.Needs.{needs}
-use Rattle.session.proofs.start.start_mask.Statement.{statement}
-use Rattle.session.proofs.start.start_mask.Tie as tie
+use Rattle.stepping.proofs.start.start_mask.Statement.{statement}
+use Rattle.stepping.proofs.start.start_mask.Tie as tie
 
 cast-all : tie.Need-cast-all
 cast-all c = search needs
