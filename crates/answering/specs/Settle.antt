@@ -148,10 +148,6 @@ module _ (xs : List ℕ) (a : Accepted xs) (ds : List Decision) where
     found-offers z = ap (take (fieldsOf xs)) ((rw e at o) .made z ∙ offers-pad (sheetProblem xs) (reachOf xs) (24 - fieldsOf xs) S)
         ∙ take-at (offers (sheetProblem xs) (reachOf xs) S) _ (fieldsOf xs) offers-sized
 
-    pub found-sized : t ≡ false → length R ≡ 24
-    found-sized z = ap length ((rw e at o) .made z ∙ offers-pad (sheetProblem xs) (reachOf xs) (24 - fieldsOf xs) S) ∙ length-pad (24 - fieldsOf xs) _
-        ∙ (let n = offers-is (sheetProblem xs) (reachOf xs) S .sized in let k = start-sized in let f = facts xs a .fields-few in omega arith)
-
 -- ---- the outcome
 
 -- Where the offers under `ds` have an empty field, 14 and nothing changed; else the next session, and the offers in front of the list.

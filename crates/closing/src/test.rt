@@ -4,7 +4,7 @@ ghost use mathlib.Core.Bool.{true};
 ghost use mathlib.Core.List.{List};
 ghost use Prim.Native.Nat.{ℕ, _^_, _≤_, _<_};
 ghost use Rattle.masks.specs.Sets.{has};
-ghost use Rattle.masks.specs.Settings.{cut, lose};
+ghost use Rattle.masks.specs.Settings.{cut, lose, empty};
 ghost use Rattle.network.specs.Tables.{problemOf};
 ghost use Rattle.closing.specs.Frame.{Tested, Removed};
 ghost use Rattle.closing.specs.Asks.{CloseAsks, LiveAsks};
@@ -14,15 +14,16 @@ use masks::Domains;
 use masks::one_bit;
 use network::hoods::all_fields;
 
-// Takes a setting from the set behind a reference.
-fn lose_in(t: &mut [u32; 24], f: usize, v: usize)
+// Takes a setting from the set behind a reference. Whether its field is empty then.
+fn lose_in(m: &mut [u32; 24], f: usize, v: usize) -> bool
     requires { ⌜ (f < 24) × (v < 32) ⌝ }
-    ensures { λ _. ⌜ now (t .exit) ≡ lose (now (t .entry)) f v ⌝ }
+    ensures { λ r. ⌜ (r ≡ empty (lose (now (m .entry)) f v) f) × (now (m .exit) ≡ lose (now (m .entry)) f v) ⌝ }
 {
-    let masks = *t;
+    let masks = *m;
     let set = Domains { masks };
-    let new = set.lose(f, v);
-    t[f] = new.masks[f];
+    let left = set.lose(f, v);
+    m[f] = left.masks[f];
+    left.is_empty(f)
 }
 
 // Tests a setting of field f over the fields of `within`. t is the set cut to it; where it passes, t becomes what the test left.
@@ -55,8 +56,7 @@ pub fn remove<'a>(
     requires { ⌜ LiveAsks n (now joined) (now forward) (now turned) (now m) × (has (now m) f v ≡ true) ⌝ }
     ensures { λ r. ⌜ Removed (problemOf n (now (joined .entry)) (now (forward .entry)) (now (turned .entry))) (now (m .entry)) f v (r .wiped) (r .changed) (now (m .exit)) ⌝ }
 {
-    lose_in(m, f, v);
-    if m[f] == 0 {
+    if lose_in(m, f, v) {
         return Narrowed {
             wiped: true,
             changed: 0,

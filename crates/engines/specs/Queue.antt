@@ -37,7 +37,6 @@ pub record Back (n : ℕ) (hood : List ℕ) (queue changed r : ℕ) : Type 0 whe
 pub record BackAsks (n : ℕ) (hood : List ℕ) (queue changed : ℕ) : Type 0 where
   pub few : n ≤ 24
   pub queued : Within queue (allOf n)
-  pub marked : Within changed (allOf n)
   pub hoods : (h : ℕ) → bit changed h ≡ true → (h < 24) × Within (getD hood h 0) (allOf n)
 
 -- the changed fields of `left` are still to come
@@ -82,7 +81,6 @@ unfolding allFields problemOf
 back-asks n joined forward turned order hood few l queue changed q c = record {
   few = few;
   queued = q;
-  marked = c;
   hoods = λ h e. let i = maskOf-bound n (λ g. true) h (c h e) in (omega arith, l .hoods .fields h i);
 }
 

@@ -124,9 +124,6 @@ pub record Same (l m : Ledger) : Type 0 where
 pub same-ledger : (l : Ledger) → Same l l
 same-ledger l = record { held = λ d. refl; past = refl }
 
-pub same-back : {l m : Ledger} → Same l m → Same m l
-same-back s = record { held = λ d. sym (s .held d); past = sym (s .past) }
-
 pub same-then : {l m n : Ledger} → Same l m → Same m n → Same l n
 same-then s t = record { held = λ d. s .held d ∙ t .held d; past = s .past ∙ t .past }
 

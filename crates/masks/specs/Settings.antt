@@ -86,12 +86,6 @@ lose-set S f v =
 pub lose-stored : (S : List ℕ) (f v : ℕ) → set S f (getD (lose S f v) f 0) ≡ lose S f v
 lose-stored S f v = rw (lose-set S f v) (set-stored S f _)
 
--- where the setting is there, the count falls
-pub lose-count : (S : List ℕ) (f v : ℕ) → has S f v ≡ true → count (lose S f v) < count S
-lose-count S f v e =
-    count-lt (lose S f v) S (length-lose S f v) (lose-⊆ S f v)
-    (not-so (same (lose S f v) S) (λ q. lose-at S f v (ap (λ (R : List ℕ). has R f v) (same-at (lose S f v) S q) ∙ e)))
-
 -- ---- an empty field
 
 -- field f has no setting in S

@@ -71,9 +71,6 @@ module _ (xs : List ℕ) (a : Accepted xs) (r : ℕ) (h : r < rulesOf xs) where
           no-pair-twice xs fs q r l h (u .0) (u .1)
 
   -- joining i and j adds rule r to the joined fields
-  runs-only : (f g : ℕ) → (f ≡ firstOf xs r → g ≡ secondOf xs r → ⊥) → runs xs f g r ≡ false
-  runs-only f g d = not-so (runs xs f g r) (λ e. let x = runs-at xs f g r e in d (sym (x .0)) (sym (x .1)))
-
   runs-here : runs xs (firstOf xs r) (secondOf xs r) r ≡ true
   unfolding runs
   runs-here = and-by _ _ (eq-eqb (firstOf xs r) (firstOf xs r) refl) (eq-eqb (secondOf xs r) (secondOf xs r) refl)

@@ -53,15 +53,9 @@ module _ (xs : List ℕ) (r place i j atI atJ : ℕ) (g : RuleFields xs r place 
   pub row-past : (v : ℕ) → countOf xs i ≤ v → 0 ≡ rowOf xs r v
   row-past v h = sym (mask-false _ _ (λ u. rw (le-ltb v (countOf xs (firstOf xs r)) (rw (g .first) at h))))
 
-  pub column-past : (u : ℕ) → countOf xs j ≤ u → 0 ≡ columnOf xs r u
-  column-past u h = sym (mask-false _ _ (λ v. rw (le-ltb u (countOf xs (secondOf xs r)) (rw (g .second) at h))))
-
   -- a row of a setting: what the rule allows beside it
   pub row-is : (v : ℕ) → v < countOf xs i → maskOf (countOf xs j) (λ u. ruleAllows xs r v u) ≡ rowOf xs r v
   row-is v h = rw (g .second, lt-ltb v (countOf xs (firstOf xs r)) (rw (g .first) at h))
-
-  pub column-is : (u : ℕ) → u < countOf xs j → maskOf (countOf xs i) (λ v. ruleAllows xs r v u) ≡ columnOf xs r u
-  column-is u h = rw (g .first, lt-ltb u (countOf xs (secondOf xs r)) (rw (g .second) at h))
 
   -- what code finds of a pair is what the rule allows
   pub allows-is : (v u kind c p q : ℕ) (t : Bool) → kind ≡ kindOf xs r → c ≡ numberOf xs r v → p ≡ settingOf xs i v → q ≡ settingOf xs j u → t ≡ allows kind c p q u
