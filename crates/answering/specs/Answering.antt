@@ -1,24 +1,21 @@
 -- An answer, put together from its parts. Assumes nothing.
-use mathlib.Core.Path.{_≡_, refl, sym, ap, ap₂, _∙_}
-use mathlib.Core.Logic.{⊎-elim}
-use mathlib.Core.Bool.{Bool, true, false, not, _||_}
-use mathlib.Core.List.{List, []}
-use Prim.Native.Nat.{ℕ, _≤_, _<_}
+use mathlib.Core.Path.{_≡_, refl, sym, ap, _∙_}
+use mathlib.Core.Bool.{Bool, true, false, _||_}
+use mathlib.Core.List.{List}
+use Prim.Native.Nat.{ℕ, _≤_}
 use native.Mathlib.Omega.{arith}
 use lib.Dec.{eqb, ltb}
-use lib.ListN.{length, take, drop}
+use lib.ListN.{length, take}
 use lib.Seq.{take-at}
 use borrow.Author.Tests.{eq-eqb, ne-eqb, eqb-true, ltb-false}
-use Rattle.masks.specs.Tests.{never, bool-cases, and-l, and-r}
+use Rattle.masks.specs.Tests.{never}
 use Rattle.masks.specs.Pick.{pick, pick-true, pick-false}
 use Rattle.sheet.specs.Judge.{refusal, numbers, ofBytes, Accepted, Gives, Outcome, giving, refusing, reading}
 use Rattle.sheet.specs.declared.answer.Answer.{Answer as Read}
 use Rattle.accepted.specs.Accept.{bytes-accepted}
 use Rattle.accepted.specs.Theorems.{enough-room, most-sheet-numbers}
-use Rattle.accepted.specs.Parts.{fieldsOf}
 use Rattle.ledger.specs.declared.Call.{Call}
-use Rattle.ledger.specs.declared.Call.the-variants.{Open, Show, Choose, Strike, WithdrawChoice, WithdrawStrike, Back, CoilOn}
-use Rattle.ledger.specs.Ledger.{Given, Ledger, changeOf, step, wiped, offersOf, tooShort, number, first, judged, causes, isOrder}
+use Rattle.ledger.specs.Ledger.{Given, step, wiped, offersOf, tooShort, number, first, judged, causes}
 use Rattle.session.specs.declared.Session.{Session}
 use Rattle.session.specs.View.{view, decisionsOf, decisionsIn}
 use Rattle.stepping.specs.Steps.{stepped}
@@ -27,7 +24,7 @@ use Rattle.session.specs.Decisions.{Long}
 use Rattle.ledger.specs.Judging.{Clear, causes-early, causes-14, causes-0}
 use Rattle.answering.specs.Settle.{Settled}
 use Rattle.answering.specs.Stepping.{shows-step}
-use Rattle.answering.specs.Answer.{Answer, refused, accepted, answer, given, Answers, written}
+use Rattle.answering.specs.Answer.{Answer, refused, answer, given, Answers}
 
 -- too short, by lengths
 abbrev pub shortBy : (offers rows memory : ℕ) → Bool

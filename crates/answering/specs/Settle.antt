@@ -29,7 +29,7 @@ use Rattle.visiting.specs.Store.{memoryWords}
 use Rattle.engines.specs.Engine.{IsOrder, Offered}
 use Rattle.offering.specs.Offering.{OfferAsks}
 use Rattle.ledger.specs.Ledger.{Decision, starts, startSet, offersOf, wiped, isOrder}
-use Rattle.ledger.specs.Lists.{tabulate, length-tabulate, getD-tabulate}
+use Rattle.ledger.specs.Lists.{length-tabulate, getD-tabulate}
 use Rattle.ledger.specs.Orders.{order-sized, order-low, order-every}
 use Rattle.session.specs.declared.Session.{Session}
 use Rattle.answering.specs.Answer.{written}

@@ -1,23 +1,23 @@
 -- A call that no cause before 14 refuses: its step can be taken, and shows the ledger's step. Assumes nothing.
-use mathlib.Core.Path.{_≡_, refl, sym, ap, _∙_}
+use mathlib.Core.Path.{_≡_, refl, sym, _∙_}
 use mathlib.Core.Logic.{⊎-elim}
-use mathlib.Core.Bool.{Bool, true, false, not, _&&_, _||_}
+use mathlib.Core.Bool.{Bool, true, false, not}
 use mathlib.Core.List.{List, _∷_}
 use Prim.Native.Nat.{ℕ, _-_, _≤_, _<_}
 use native.Mathlib.Omega.{arith}
 use lib.Dec.{eqb, ltb}
 use lib.ListN.{length}
-use borrow.Author.Tests.{ltb-false, eqb-false, eq-eqb}
+use borrow.Author.Tests.{eqb-false}
 use Rattle.masks.specs.Tests.{never, bool-cases}
 use Rattle.sheet.specs.Judge.{Accepted}
 use Rattle.ledger.specs.declared.Call.{Call}
 use Rattle.ledger.specs.declared.Call.the-variants.{Open, Show, Choose, Strike, WithdrawChoice, WithdrawStrike, Back, CoilOn}
-use Rattle.ledger.specs.Ledger.{Decision, choice, Ledger, changeOf, step, isOpen, onSheet, allOnSheet, reversible, illFormed, malformed, offSheet, unknownArgument, nothingPast, noRoom}
+use Rattle.ledger.specs.Ledger.{choice, changeOf, step, isOpen, onSheet, reversible, illFormed, malformed, offSheet, unknownArgument, noRoom}
 use Rattle.ledger.specs.Laws.{Same}
-use Rattle.ledger.specs.Judging.{or-left, or-right, not-back, well-formed}
+use Rattle.ledger.specs.Judging.{or-right, not-back, well-formed}
 use Rattle.session.specs.declared.Session.{Session}
-use Rattle.session.specs.Decisions.{decisionOf, heldIn, Long}
-use Rattle.session.specs.Events.{eventBy, past, length-past, past-latest, canReverse, reverses}
+use Rattle.session.specs.Decisions.{decisionOf, Long}
+use Rattle.session.specs.Events.{eventBy, past, length-past, past-latest, reverses}
 use Rattle.session.specs.View.{decisionsOf, decisionsIn, view}
 use Rattle.session.specs.Form.{on-low, on-either, event-off, event-stuck}
 use Rattle.stepping.specs.Steps.{stepped, latest, RecordAsks, BackAsks, StepAsks, view-step}

@@ -1,6 +1,5 @@
 // The answer to any call.
 ghost use mathlib.Core.Path.{_≡_};
-ghost use Rattle.ledger.specs.Ledger.{tooShort};
 ghost use Rattle.answering.specs.Answer.{Answers};
 ghost use Rattle.answering.specs.Answering.{shortBy};
 use super::settle::settle;

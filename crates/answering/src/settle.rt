@@ -1,12 +1,8 @@
 // The offers under a session's decisions, found and written.
 ghost use mathlib.Core.Path.{_≡_};
-ghost use mathlib.Core.Bool.{true};
 ghost use mathlib.Core.List.{_++_};
 ghost use Prim.Native.Nat.{_≤_};
 ghost use lib.ListN.{length, take, drop};
-ghost use Rattle.sheet.specs.Judge.{Accepted};
-ghost use Rattle.accepted.specs.Parts.{fieldsOf};
-ghost use Rattle.ledger.specs.Ledger.{isOrder};
 ghost use Rattle.session.specs.View.{decisionsOf, decisionsIn};
 ghost use Rattle.answering.specs.Settle.{SettleAsks, Settled};
 use accepted::parts;

@@ -14,7 +14,7 @@ use Rattle.masks.specs.Tests.{and-l, and-r}
 use Rattle.masks.specs.Pick.{pick}
 use Rattle.grammar.specs.Refusals.{surplus, outOfRange, outOfOrder}
 use Rattle.groups.specs.Groups.{groups, numberAt, lastGroup, groups-number, groups-nothing, groups-empty}
-use Rattle.sheet.specs.Judge.{Item, num, cut, ill, meets, judge, refusal, itemsFrom, ofBytes}
+use Rattle.sheet.specs.Judge.{Item, num, cut, ill, judge, refusal, itemsFrom, ofBytes}
 use Rattle.sheet.specs.Items.{from-num, from-cut, from-ill}
 use Rattle.grammar.specs.Grammar.{step, start, noCounts, upTo, ranged, ordered, afterField, afterRule, key}
 use Rattle.accepted.specs.Parts.{fieldsOf}

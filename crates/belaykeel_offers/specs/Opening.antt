@@ -4,10 +4,10 @@ use mathlib.Core.Bool.{Bool, true, false, _||_}
 use mathlib.Core.List.{List, [], _∷_}
 use Prim.Native.Nat.{ℕ, _≤_}
 use native.Mathlib.Omega.{arith}
-use lib.Dec.{eqb, ltb}
+use lib.Dec.{eqb}
 use lib.ListN.{length, take, replicate, length-append}
 use lib.Seq.{take-at}
-use borrow.Author.Tests.{eq-eqb, ne-eqb, eqb-true, le-ltb}
+use borrow.Author.Tests.{eq-eqb, eqb-true, le-ltb}
 use Rattle.masks.specs.Pick.{pick, pick-true, pick-false}
 use Rattle.grammar.specs.Limits.{mostNumbers}
 use Rattle.sheet.specs.Judge.{Accepted, Gives, Outcome, refusal, numbers, ofBytes, reading, giving, refusing, answered}

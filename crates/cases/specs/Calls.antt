@@ -1,8 +1,6 @@
 -- The sheets and calls that the starred cases speak of. Assumes nothing.
 use mathlib.Core.List.{List, [], _∷_}
-use Prim.Native.Nat.{ℕ, zero, suc}
-use lib.ListN.{length}
-use Rattle.masks.specs.Pick.{pick}
+use Prim.Native.Nat.{ℕ}
 use Rattle.sheet.specs.Judge.{numbers, ofBytes}
 use Rattle.accepted.specs.Parts.{fieldsOf}
 use Rattle.ledger.specs.declared.Call.{Call}

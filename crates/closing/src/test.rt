@@ -2,7 +2,7 @@
 ghost use mathlib.Core.Path.{_≡_};
 ghost use mathlib.Core.Bool.{true};
 ghost use mathlib.Core.List.{List};
-ghost use Prim.Native.Nat.{ℕ, _^_, _≤_, _<_};
+ghost use Prim.Native.Nat.{ℕ, _^_, _<_};
 ghost use Rattle.masks.specs.Sets.{has};
 ghost use Rattle.masks.specs.Settings.{cut, lose, empty};
 ghost use Rattle.network.specs.Tables.{problemOf};

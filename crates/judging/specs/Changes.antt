@@ -1,20 +1,16 @@
 -- What a call does to the decisions, as code names it: by the kind, field and position of the event that it would add. Assumes nothing.
 use mathlib.Core.Path.{_≡_, refl, sym, ap, _∙_}
-use mathlib.Core.Logic.{⊎-elim}
-use mathlib.Core.Bool.{Bool, true, false, not, _&&_, _||_}
+use mathlib.Core.Bool.{Bool, true, false, not, _||_}
 use mathlib.Core.List.{List}
-use Prim.Native.Nat.{ℕ, zero, suc, _%_, _≤_, _<_}
+use Prim.Native.Nat.{ℕ, zero, suc, _≤_, _<_}
 use native.Mathlib.Omega.{arith}
 use lib.Dec.{eqb, ltb}
-use lib.ListN.{length}
-use borrow.Author.Tests.{eqb-true, eqb-false, eq-eqb, ne-eqb, lt-ltb, le-ltb}
-use Rattle.masks.specs.Tests.{never, bool-cases, and-l, and-r}
+use borrow.Author.Tests.{eq-eqb, ne-eqb, lt-ltb, le-ltb}
+use Rattle.masks.specs.Tests.{never}
 use Rattle.masks.specs.Pick.{pick}
 use Rattle.sheet.specs.Judge.{Accepted}
-use Rattle.accepted.specs.Parts.{reachOf}
 use Rattle.ledger.specs.declared.Call.{Call}
-use Rattle.ledger.specs.declared.Call.the-variants.{Open, Show, Choose, Strike, WithdrawChoice, WithdrawStrike, Back, CoilOn}
-use Rattle.ledger.specs.Ledger.{Decision, choice, strike, Event, Change, adds, withdraws, neither, changeOf, inForce, onSheet, offSheet, unknownArgument, addedAgain, withdrawnUnheld, noRoom, mostEvents}
+use Rattle.ledger.specs.Ledger.{Decision, choice, strike, Event, Change, adds, withdraws, neither, onSheet, offSheet, unknownArgument, addedAgain, withdrawnUnheld, noRoom}
 use Rattle.session.specs.declared.decisions.Decisions.{Decisions}
 use Rattle.session.specs.declared.Event.{Event as EventWords}
 use Rattle.session.specs.Decisions.{decisionOf, heldIn}

@@ -1,10 +1,8 @@
 -- The order of the causes: ledgers and calls to which two causes apply, and the number given, computed. The ledgers are forged; no sequence of
 -- calls makes some of them. Assumes nothing.
 use mathlib.Core.Path.{_≡_, refl}
-use mathlib.Core.Bool.{Bool, true, false, _&&_}
 use mathlib.Core.List.{List, [], _∷_}
 use Prim.Native.Nat.{ℕ, zero, suc}
-use lib.Dec.{eqb}
 use Rattle.masks.specs.Tests.{allBelow, someBelow}
 use Rattle.masks.specs.Bits.{bit}
 use Rattle.masks.specs.Masks.{maskOf, keepIn, keepBits, someIn, someBit, countIn, countBits}
@@ -23,9 +21,9 @@ use Rattle.accepted.specs.Parts.{fieldStart, ruleStart}
 use Rattle.accepted.specs.Cases.{D}
 use Rattle.network.specs.SheetProblem.{runs, pairs, sheetProblem}
 use Rattle.ledger.specs.declared.Call.{Call}
-use Rattle.ledger.specs.declared.Call.the-variants.{Open, Show, Choose, Strike, WithdrawChoice, WithdrawStrike, Back, CoilOn}
+use Rattle.ledger.specs.declared.Call.the-variants.{Open, Show, Choose, Strike, WithdrawChoice, Back}
 use Rattle.ledger.specs.Lists.{tabulate, occurrences}
-use Rattle.ledger.specs.Ledger.{Decision, choice, strike, Event, added, withdrawn, unknown, Ledger, same as sameDecision, inForce, without, empty as noLedger, reversed, step, starts, startSet, offersOf, wiped, Given, tooShort, onSheet, allOnSheet, reversible, illFormed, malformed, unknownArgument, isOrder, first, judged, causes, number}
+use Rattle.ledger.specs.Ledger.{choice, strike, Event, added, withdrawn, unknown, Ledger, same as sameDecision, inForce, without, empty as noLedger, reversed, step, starts, startSet, offersOf, wiped, Given, tooShort, onSheet, allOnSheet, reversible, illFormed, malformed, unknownArgument, isOrder, first, judged, causes, number}
 
 -- sheet D with an engine, an order, and spaces just long enough
 abbrev givenD : ℕ → List ℕ → Given

@@ -2,13 +2,12 @@
 -- Assumes nothing.
 use mathlib.Core.Path.{_≡_, refl, sym, ap, ap₂, _∙_, fun-ext}
 use mathlib.Core.Logic.{⊎-elim}
-use mathlib.Core.Bool.{Bool, true, false, not, _&&_, _||_, and-false}
-use mathlib.Core.List.{List, [], _∷_, _++_}
-use Prim.Native.Nat.{ℕ, _<_}
+use mathlib.Core.Bool.{Bool, true, false, not, _&&_, _||_}
+use mathlib.Core.List.{List, [], _∷_}
+use Prim.Native.Nat.{ℕ}
 use lib.Dec.{eqb}
-use lib.ListN.{length}
 use borrow.Author.Tests.{eqb-true, eq-eqb}
-use Rattle.masks.specs.Tests.{never, not-so, bool-cases, iff-eq, and-l, and-r, and-by, or-l, or-r, or-at, allBelow, _⇒_}
+use Rattle.masks.specs.Tests.{never, bool-cases, iff-eq, and-l, and-r, and-by, or-l, or-r, or-at, allBelow, _⇒_}
 use Rattle.masks.specs.Masks.{maskOf}
 use Rattle.masks.specs.Pick.{pick, pick-true, pick-false}
 use Rattle.consistency.specs.Offers.{offers, wipedOut}
@@ -18,7 +17,7 @@ use Rattle.network.specs.SheetProblem.{sheetProblem}
 use Rattle.ledger.specs.Lists.{tabulate}
 use Rattle.ledger.specs.declared.Call.{Call}
 use Rattle.ledger.specs.declared.Call.the-variants.{Open, Show, Choose, Strike, WithdrawChoice, WithdrawStrike, Back, CoilOn}
-use Rattle.ledger.specs.Ledger.{Decision, choice, strike, Event, added, withdrawn, unknown, Ledger, same, inForce, with, without, Change, adds, withdraws, neither, changeOf, reversed, step, starts, startSet, offersOf, wiped, Given, onSheet, allOnSheet, reversible, illFormed, malformed, addedAgain, withdrawnUnheld, Cause, first, judged, causes, number, after}
+use Rattle.ledger.specs.Ledger.{Decision, choice, strike, Event, added, withdrawn, unknown, Ledger, same, inForce, with, without, Change, adds, withdraws, neither, changeOf, reversed, step, starts, startSet, offersOf, wiped, Given, onSheet, allOnSheet, reversible, illFormed, malformed, addedAgain, withdrawnUnheld, judged, causes, number, after}
 
 -- ---- the same decision
 

@@ -1,5 +1,5 @@
 -- An order of the fields: how occurrences are counted, and what follows of a list that holds every field just one time. Assumes nothing.
-use mathlib.Core.Path.{_≡_, refl, sym, ap, ap₂, _∙_, fun-ext}
+use mathlib.Core.Path.{_≡_, refl, sym, ap, ap₂, _∙_}
 use mathlib.Core.Logic.{⊎-elim}
 use mathlib.Core.Bool.{Bool, true, false, _&&_}
 use mathlib.Core.List.{List, [], _∷_}
@@ -8,8 +8,8 @@ use native.Mathlib.Numerals.{add-one}
 use native.Mathlib.Omega.{arith}
 use lib.Dec.{eqb, ltb}
 use lib.ListN.{length, getD, take}
-use borrow.Author.Tests.{eqb-true, eqb-false, eq-eqb, ne-eqb, ltb-true, ltb-false, lt-ltb, le-ltb}
-use Rattle.masks.specs.Tests.{never, not-so, bool-cases, eq-cases, and-l, and-r, and-by, allBelow, allBelow-at, allBelow-by}
+use borrow.Author.Tests.{eqb-true, eq-eqb, ne-eqb, ltb-true, ltb-false, lt-ltb, le-ltb}
+use Rattle.masks.specs.Tests.{not-so, bool-cases, eq-cases, and-l, and-r, and-by, allBelow, allBelow-at, allBelow-by}
 use Rattle.masks.specs.Masks.{digit}
 use Rattle.ledger.specs.Lists.{occurrences}
 use Rattle.ledger.specs.Ledger.{isOrder}

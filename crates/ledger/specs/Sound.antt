@@ -8,15 +8,15 @@ use native.Mathlib.Omega.{arith}
 use lib.Dec.{eqb, ltb}
 use lib.ListN.{length}
 use borrow.Author.Tests.{eqb-true, eqb-false, le-ltb}
-use Rattle.masks.specs.Tests.{never, not-so, bool-cases, and-l, and-r, and-by, or-l, or-r, or-at}
+use Rattle.masks.specs.Tests.{never, bool-cases, and-l, and-r, and-by, or-l}
 use Rattle.masks.specs.Pick.{pick, pick-true, pick-false}
 use Rattle.sheet.specs.Judge.{refusal, numbers, ofBytes}
 use Rattle.accepted.specs.Refused.{refusal-few}
 use Rattle.ledger.specs.declared.Call.{Call}
 use Rattle.ledger.specs.declared.Call.the-variants.{Open, Show, Choose, Strike, WithdrawChoice, WithdrawStrike, Back, CoilOn}
-use Rattle.ledger.specs.Ledger.{Decision, choice, strike, Event, added, withdrawn, unknown, Ledger, same, inForce, with, without, isOpen, empty, adding, withdrawing, reversed, step, Given, tooShort, onSheet, allOnSheet, reversible, illFormed, malformed, offSheet, unknownArgument, addedAgain, withdrawnUnheld, noRoom, changeOf, Cause, because, first, judged, causes, number, after}
+use Rattle.ledger.specs.Ledger.{Decision, choice, strike, Event, added, withdrawn, unknown, Ledger, same, inForce, with, without, isOpen, empty, adding, withdrawing, reversed, step, Given, tooShort, onSheet, allOnSheet, reversible, illFormed, malformed, offSheet, unknownArgument, noRoom, changeOf, first, judged, causes, number, after}
 use Rattle.ledger.specs.Laws.{same-at, same-self, inForce-with, inForce-without, allOn-at, allOn-by, Alike, alike-reversible}
-use Rattle.ledger.specs.Judging.{Clear, none-applies, or-left, or-right, not-back, well-formed}
+use Rattle.ledger.specs.Judging.{Clear, none-applies, or-right, not-back, well-formed}
 
 pub and-true : (b : Bool) → (b && true) ≡ b
 and-true true = refl

@@ -1,18 +1,16 @@
 -- What holds of the ledger, beside demand 3. Assumes nothing.
 use mathlib.Core.Path.{_≡_, refl, sym, ap, ap₂, _∙_}
 use mathlib.Core.Logic.{⊎-elim}
-use mathlib.Core.Bool.{Bool, true, false, not, _&&_, _||_, and-false}
+use mathlib.Core.Bool.{Bool, true, false, not, _&&_, and-false}
 use mathlib.Core.List.{List, [], _∷_}
 use Prim.Native.Nat.{ℕ, _<_}
-use native.Mathlib.Omega.{arith}
 use lib.Dec.{eqb, ltb}
-use lib.ListN.{getD}
 use borrow.Author.Tests.{eqb-true, eq-eqb, lt-ltb}
-use Rattle.masks.specs.Tests.{never, not-so, bool-cases, iff-eq, and-l, and-r, and-by, or-l, or-r, or-at, someBelow, someBelow-at, someBelow-by, allBelow, allBelow-at, allBelow-by, _⇒_, ⇒-at, ⇒-by}
+use Rattle.masks.specs.Tests.{never, not-so, iff-eq, and-r, and-by, or-l, or-r, or-at, someBelow, someBelow-at, someBelow-by, allBelow-at, allBelow-by, ⇒-at, ⇒-by}
 use Rattle.masks.specs.Bits.{bit}
 use Rattle.masks.specs.Masks.{maskOf, maskOf-in}
 use Rattle.masks.specs.Sets.{has}
-use Rattle.masks.specs.Pick.{pick, pick-true, pick-false}
+use Rattle.masks.specs.Pick.{pick}
 use Rattle.consistency.specs.SetUps as setUps
 use Rattle.consistency.specs.Problem.{SetUp}
 use Rattle.sheet.specs.Judge.{refusal, numbers, ofBytes}
@@ -20,9 +18,9 @@ use Rattle.accepted.specs.Parts.{fieldsOf, countOf, reachOf, rulesOf, firstOf, 
 use Rattle.network.specs.SheetProblem.{runs, runs-at, pairs, joins, allowsPair, sheetProblem}
 use Rattle.ledger.specs.declared.Call.{Call}
 use Rattle.ledger.specs.declared.Call.the-variants.{Open, Show, Choose, Strike, WithdrawChoice, WithdrawStrike, Back, CoilOn}
-use Rattle.ledger.specs.Lists.{tabulate, getD-tabulate}
-use Rattle.ledger.specs.Ledger.{Decision, choice, strike, Ledger, same, inForce, with, without, Change, neither, changeOf, reversed, step, starts, startSet, offersOf, wiped, Given, tooShort, malformed, unknownArgument, isOrder, addedAgain, withdrawnUnheld, nothingPast, noRoom, Cause, because, first, judged, causes, number}
-use Rattle.ledger.specs.Laws.{same-at, inForce-without, Alike, alike-offers, Same}
+use Rattle.ledger.specs.Lists.{getD-tabulate}
+use Rattle.ledger.specs.Ledger.{Decision, choice, strike, Ledger, same, inForce, with, without, neither, changeOf, reversed, step, starts, startSet, offersOf, wiped, Given, tooShort, malformed, unknownArgument, isOrder, addedAgain, withdrawnUnheld, nothingPast, noRoom, Cause, because, first, judged, causes, number}
+use Rattle.ledger.specs.Laws.{same-at, inForce-without, alike-offers, Same}
 use Rattle.ledger.specs.Judging.{Clear, none-applies, not-back}
 use Rattle.ledger.specs.Sound.{and-true, added-back, withdrawn-back}
 

@@ -1,18 +1,17 @@
 -- What tables that were filled from a sheet hold: its problem. Assumes nothing.
-use mathlib.Core.Path.{_≡_, refl, sym, ap, ap₂, _∙_, fun-ext}
-use mathlib.Core.Logic.{_⊎_, inl, inr, ⊎-elim}
-use mathlib.Core.Bool.{Bool, true, false, _&&_, _||_, and-false}
+use mathlib.Core.Path.{_≡_, refl, sym, ap, ap₂, _∙_}
+use mathlib.Core.Logic.{⊎-elim}
+use mathlib.Core.Bool.{Bool, true, false, _&&_, and-false}
 use mathlib.Core.List.{List}
 use Prim.Native.Nat.{ℕ, _+_, _*_, _≤_, _<_}
 use native.Mathlib.Omega.{arith}
 use lib.Dec.{ltb}
-use lib.ListN.{length, getD, take, drop, List·getD-eq-default, length-take, length-drop}
+use lib.ListN.{length, getD, take, drop, List·getD-eq-default, length-take}
 use lib.Seq.{getD-take, getD-drop}
 use borrow.Author.Tests.{ltb-true, ltb-false, lt-ltb, le-ltb}
 use Rattle.masks.specs.Tests.{never, not-so, bool-cases, iff-eq, and-l, and-r, and-by, or-l, or-r, or-at, someBelow, someBelow-at, someBelow-by}
 use Rattle.masks.specs.Bits.{bit, bit-of-zero}
 use Rattle.masks.specs.Masks.{maskOf, bit-maskOf}
-use Rattle.consistency.specs.Problem.{Problem, Symmetric}
 use Rattle.sheet.specs.Judge.{Accepted}
 use Rattle.accepted.specs.Parts.{fieldsOf, countOf, rulesOf, firstOf, secondOf, ruleAllows}
 use Rattle.accepted.specs.Facts.{Facts, facts}

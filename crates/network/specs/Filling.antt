@@ -1,27 +1,26 @@
 -- The tables of a sheet, filled rule after rule. Assumes nothing.
 use mathlib.Core.Path.{_≡_, refl, sym, ap, _∙_}
 use mathlib.Core.Logic.{_⊎_, inl, inr, ⊎-elim}
-use mathlib.Core.Bool.{Bool, true, false, _&&_, _||_}
+use mathlib.Core.Bool.{Bool, true, false, _||_}
 use mathlib.Core.List.{List}
 use Prim.Native.Nat.{ℕ, _+_, _*_, _^_, _≤_, _<_}
-use native.Mathlib.Nat.{eq-or-lt-of-le, one-mul}
+use native.Mathlib.Nat.{eq-or-lt-of-le}
 use native.Mathlib.Numerals.{add-one}
 use native.Mathlib.Omega.{arith}
-use lib.Bits.{bitOr, or-shifted-r}
+use lib.Bits.{bitOr}
 use lib.Dec.{eqb, ltb}
 use lib.ListN.{length, getD, set, replicate, length-set, length-replicate}
 use lib.Seq.{getD-set-same, getD-set-other}
-use borrow.Author.Tests.{eqb-true, eqb-false, eq-eqb, ne-eqb, ltb-true, ltb-false, lt-ltb, le-ltb}
-use Rattle.masks.specs.Tests.{never, not-so, bool-cases, eq-cases, iff-eq, and-l, and-r, and-by, or-l, or-r, or-at, someBelow}
-use Rattle.masks.specs.Bits.{bit, bit-of-zero, bit-ext}
-use Rattle.masks.specs.Masks.{maskOf, bit-maskOf, maskOf-lt, maskOf-suc, digit}
+use borrow.Author.Tests.{eqb-true, eq-eqb, ltb-true, ltb-false}
+use Rattle.masks.specs.Tests.{not-so, bool-cases, eq-cases, iff-eq, and-by, or-l, or-r, or-at, someBelow}
+use Rattle.masks.specs.Bits.{bit, bit-of-zero}
 use Rattle.masks.specs.Words.{bit-or, bit-one}
 use Rattle.masks.specs.Sets.{getD-zeros}
 use Rattle.sheet.specs.Judge.{Accepted}
-use Rattle.accepted.specs.Parts.{fieldsOf, countOf, rulesOf, ruleStart, firstOf, secondOf, ruleAllows, RuleAt}
+use Rattle.accepted.specs.Parts.{rulesOf, ruleStart, firstOf, secondOf, RuleAt}
 use Rattle.accepted.specs.Facts.{Facts, facts}
 use Rattle.accepted.specs.Order.{no-pair-twice}
-use Rattle.network.specs.Slots.{slot, slot-bound, slot-unique}
+use Rattle.network.specs.Slots.{slot-bound, slot-unique}
 use Rattle.network.specs.Tables.{tableWords, bothTables, forwardOf, turnedOf, tables-room}
 use Rattle.network.specs.SheetProblem.{runs, runs-at, joins}
 use Rattle.network.specs.Stored.{Stored}

@@ -1,9 +1,8 @@
 -- The network of a sheet: what the engines run on. Assumes nothing.
-use mathlib.Core.Path.{_≡_, refl, sym, ap, _∙_}
+use mathlib.Core.Path.{_≡_, refl, sym}
 use mathlib.Core.List.{List}
 use Prim.Native.Nat.{ℕ, _≤_, _<_}
 use lib.ListN.{getD}
-use Rattle.consistency.specs.Problem.{Problem}
 use Rattle.consistency.specs.Neighbourhood.{neighbourhood}
 use Rattle.sheet.specs.Judge.{Accepted}
 use Rattle.accepted.specs.Parts.{fieldsOf, reachOf, rulesOf}

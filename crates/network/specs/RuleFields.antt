@@ -1,18 +1,16 @@
 -- What the functions that fill the tables ask of a rule, and what its rows are. Assumes nothing.
-use mathlib.Core.Path.{_≡_, refl, sym, ap, _∙_}
-use mathlib.Core.Bool.{Bool, true, false, _&&_}
+use mathlib.Core.Path.{_≡_, sym}
+use mathlib.Core.Bool.{Bool}
 use mathlib.Core.List.{List}
-use Prim.Native.Nat.{ℕ, _+_, _≤_, _<_}
+use Prim.Native.Nat.{ℕ, _≤_, _<_}
 use native.Mathlib.Omega.{arith}
-use lib.Dec.{ltb}
 use borrow.Author.Tests.{lt-ltb, le-ltb}
 use Rattle.masks.specs.Masks.{maskOf}
-use Rattle.sheet.specs.Judge.{Accepted}
-use Rattle.accepted.specs.Parts.{fieldsOf, fieldStart, countOf, rulesOf, ruleStart, firstOf, secondOf, kindOf, numberOf, settingOf, ruleAllows, FieldAt, RuleAt}
+use Rattle.accepted.specs.Parts.{fieldsOf, fieldStart, countOf, firstOf, secondOf, kindOf, numberOf, settingOf, ruleAllows, FieldAt, RuleAt}
 use Rattle.accepted.specs.Kinds.{allows}
 use Rattle.accepted.specs.Facts.{Facts, facts}
-use Rattle.masks.specs.Loops.{mask-false, mask-cong, mask-self}
-use Rattle.network.specs.Built.{rowOf, columnOf}
+use Rattle.masks.specs.Loops.{mask-false}
+use Rattle.network.specs.Built.{rowOf}
 
 -- rule r at its place, its fields i and j, and where their counts stand
 pub record RuleFields (xs : List ℕ) (r place i j atI atJ : ℕ) : Type 0 where

@@ -1,7 +1,7 @@
 -- The rows of one rule: as they are made, and as they are stored in both tables. Assumes nothing.
-use mathlib.Core.Path.{_≡_, refl, sym, ap, _∙_}
+use mathlib.Core.Path.{_≡_, sym, ap, _∙_}
 use mathlib.Core.Logic.{⊎-elim}
-use mathlib.Core.Bool.{Bool, true, false, _&&_}
+use mathlib.Core.Bool.{_&&_}
 use mathlib.Core.List.{List}
 use Prim.Native.Nat.{ℕ, _+_, _*_, _≤_, _<_}
 use native.Mathlib.Nat.{eq-or-lt-of-le}
@@ -12,14 +12,14 @@ use lib.Seq.{getD-set-same, getD-set-other}
 use borrow.Author.Tests.{lt-ltb, ltb-true, ltb-false, eq-eqb}
 use Rattle.masks.specs.Tests.{bool-cases}
 use Rattle.masks.specs.Bits.{bit}
-use Rattle.masks.specs.Masks.{maskOf, bit-maskOf, maskOf-lt}
+use Rattle.masks.specs.Masks.{bit-maskOf, maskOf-lt}
 use Rattle.masks.specs.Loops.{mask-cong, mask-self}
 use Rattle.masks.specs.Sets.{getD-zeros}
-use Rattle.masks.specs.Pick.{pick, pick-true}
+use Rattle.masks.specs.Pick.{pick-true}
 use Rattle.accepted.specs.Parts.{countOf, firstOf, secondOf, kindOf, numberOf, valueOf, ruleAllows}
 use Rattle.accepted.specs.Facts.{facts}
-use Rattle.network.specs.Slots.{slot, slot-bound}
-use Rattle.network.specs.Tables.{tableWords, bothTables, forwardOf, turnedOf, tables-room}
+use Rattle.network.specs.Slots.{slot}
+use Rattle.network.specs.Tables.{tableWords, forwardOf, turnedOf}
 use Rattle.network.specs.Stored.{Stored, wordsOf, wordsOf-at, stored-forward, stored-turned, stored-then, stored-before, stored-cong, table-lengths}
 use Rattle.network.specs.Turned.{Rows, Columns}
 use Rattle.network.specs.Built.{rowOf, columnOf, slotOf}

@@ -2,7 +2,6 @@
 ghost use mathlib.Core.Path.{_≡_};
 ghost use mathlib.Core.Bool.{true};
 ghost use Prim.Native.Nat.{_≤_, _<_};
-ghost use lib.ListN.{length};
 ghost use Rattle.masks.specs.Masks.{maskOf};
 ghost use Rattle.network.specs.Hoods.{JoinsBelow, Widening, HoodFor, HoodsTo};
 use masks::has_bit;

@@ -1,10 +1,10 @@
 -- What is asked can be met: on sheet D, with a start set of all its settings, and what the answer then is. Assumes nothing.
-use mathlib.Core.Path.{_≡_, refl, sym, ap, _∙_}
+use mathlib.Core.Path.{_≡_, refl, ap, _∙_}
 use mathlib.Core.Bool.{Bool, true, false}
 use mathlib.Core.List.{List, [], _∷_, _++_}
-use Prim.Native.Nat.{ℕ, zero, suc, _^_, _≤_, _<_}
+use Prim.Native.Nat.{ℕ, zero, suc, _^_, _<_}
 use native.Mathlib.Omega.{arith}
-use lib.ListN.{length, getD, take, replicate, length-replicate}
+use lib.ListN.{getD, take, replicate, length-replicate}
 use Rattle.masks.specs.Tests.{never, allBelow, someBelow}
 use Rattle.masks.specs.Bits.{bit, bit-of-zero}
 use Rattle.masks.specs.Masks.{maskOf, keepIn, keepBits, someIn, someBit, countIn, countBits}

@@ -1,5 +1,5 @@
 -- Decisions as masks: which are in force, one more, one less. Assumes nothing.
-use mathlib.Core.Path.{_≡_, refl, sym, ap, ap₂, _∙_}
+use mathlib.Core.Path.{_≡_, refl, sym, ap, _∙_}
 use mathlib.Core.Logic.{⊎-elim}
 use mathlib.Core.Bool.{Bool, true, false, not, _&&_, _||_}
 use mathlib.Core.List.{List}
@@ -12,10 +12,9 @@ use lib.Seq.{getD-set-same, getD-set-other}
 use borrow.Author.Tests.{eq-eqb, ne-eqb}
 use Rattle.masks.specs.Tests.{eq-cases}
 use Rattle.masks.specs.Bits.{bit}
-use Rattle.masks.specs.Words.{bit-or, bit-one, clear, bit-clear}
+use Rattle.masks.specs.Words.{bit-or, bit-one, bit-clear}
 use Rattle.masks.specs.Sets.{has}
 use Rattle.masks.specs.Settings.{lose, length-lose, lose-set}
-use Rattle.masks.specs.Pick.{pick}
 use Rattle.ledger.specs.Ledger.{Decision, choice, strike, same}
 use Rattle.session.specs.declared.decisions.Decisions.{Decisions}
 

@@ -1,14 +1,14 @@
 -- Events as a session holds them: what each is to the ledger, whether it can be reversed, and the decisions before it. Assumes nothing.
-use mathlib.Core.Path.{_≡_, refl, sym, ap, _∙_}
-use mathlib.Core.Bool.{Bool, true, false, not}
+use mathlib.Core.Path.{_≡_, refl, ap, _∙_}
+use mathlib.Core.Bool.{Bool, false, not}
 use mathlib.Core.List.{List, [], _∷_}
 use Prim.Native.Nat.{ℕ, zero, suc, _-_, _%_, _≤_, _<_}
 use native.Mathlib.Omega.{arith}
 use lib.Dec.{eqb, leb}
 use lib.ListN.{length, getD, set}
 use lib.Seq.{getD-set-same, getD-set-other}
-use borrow.Author.Tests.{le-leb, lt-leb, ne-eqb}
-use Rattle.masks.specs.Pick.{pick, pick-true, pick-false}
+use borrow.Author.Tests.{ne-eqb}
+use Rattle.masks.specs.Pick.{pick, pick-false}
 use Rattle.ledger.specs.Ledger.{Decision, choice, strike, Event, added, withdrawn, unknown}
 use Rattle.session.specs.declared.Event.{Event as EventWords}
 use Rattle.session.specs.declared.decisions.Decisions.{Decisions}

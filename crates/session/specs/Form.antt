@@ -1,14 +1,12 @@
 -- A malformed session, as code finds it. Assumes nothing.
-use mathlib.Core.Path.{_≡_, refl, sym, ap, ap₂, _∙_}
+use mathlib.Core.Path.{_≡_, refl, sym, ap, _∙_}
 use mathlib.Core.Logic.{⊎-elim}
 use mathlib.Core.Bool.{Bool, true, false, not, _&&_, _||_, and-false}
-use mathlib.Core.List.{List, [], _∷_}
-use Prim.Native.Nat.{ℕ, zero, suc, _+_, _-_, _^_, _≤_, _<_}
-use native.Mathlib.Nat.{eq-or-lt-of-le}
+use mathlib.Core.List.{List, _∷_}
+use Prim.Native.Nat.{ℕ, _-_, _^_, _≤_, _<_}
 use native.Mathlib.Omega.{arith}
-use lib.Dec.{eqb, ltb, leb}
+use lib.Dec.{ltb, leb}
 use lib.ListN.{length, getD, List·getD-eq-default}
-use lib.Pow.{pow-mono}
 use borrow.Author.Tests.{ltb-true, ltb-false, lt-ltb, le-ltb, le-leb, lt-leb}
 use Rattle.masks.specs.Tests.{never, not-so, bool-cases, iff-eq, and-l, and-r, and-by, allBelow, allBelow-at, allBelow-by}
 use Rattle.masks.specs.Bits.{bit, bit-of-zero, bit-bound, lt-of-bits}
@@ -17,13 +15,13 @@ use Rattle.masks.specs.Pick.{pick, pick-true, pick-false}
 use Rattle.sheet.specs.Judge.{Accepted}
 use Rattle.accepted.specs.Parts.{fieldsOf, countOf}
 use Rattle.accepted.specs.Facts.{facts}
-use Rattle.ledger.specs.Ledger.{Decision, choice, strike, Event, added, withdrawn, unknown, same, inForce, with, without, onSheet, allOnSheet, reversible, illFormed, mostEvents}
+use Rattle.ledger.specs.Ledger.{Decision, choice, strike, Event, same, with, without, onSheet, allOnSheet, reversible, illFormed}
 use Rattle.ledger.specs.Laws.{inForce-with, inForce-without, allOn-at, allOn-by, Alike, alike-reversible}
 use Rattle.session.specs.declared.Event.{Event as EventWords}
 use Rattle.session.specs.declared.Session.{Session}
 use Rattle.session.specs.declared.decisions.Decisions.{Decisions}
 use Rattle.session.specs.Decisions.{decisionOf, heldIn, gained, lost, Long, gained-long, lost-long, held-gained, held-lost}
-use Rattle.session.specs.Events.{eventBy, eventOf, noEvent, past, length-past, past-latest, ofStrike, event-none, event-past, event-added, event-withdrawn, canReverse, reverses, undone, ByKind, by-added, by-withdrawn, by-unknown, byKind}
+use Rattle.session.specs.Events.{eventBy, noEvent, past, length-past, past-latest, ofStrike, canReverse, reverses, undone, ByKind, by-added, by-withdrawn, by-unknown, byKind}
 use Rattle.session.specs.View.{decisionsOf, inForce-of, decisionsIn, view}
 
 -- ---- a setting on the sheet

@@ -8,11 +8,10 @@ use native.Mathlib.Nat.{le-refl}
 use native.Mathlib.Omega.{arith}
 use lib.Arith.{half-le}
 use lib.Dec.{eqb}
-use lib.ListN.{getD}
-use Rattle.masks.specs.Tests.{never, bool-cases, iff-eq, or-l, or-r, or-at}
+use Rattle.masks.specs.Tests.{never, iff-eq, or-l, or-r, or-at}
 use Rattle.masks.specs.Bits.{bit, bit-zero, bit-suc, bit-of-zero}
 use Rattle.masks.specs.Sets.{has}
-use Rattle.masks.specs.Pick.{pick, pick-true, pick-false}
+use Rattle.masks.specs.Pick.{pick}
 use Rattle.ledger.specs.Ledger.{Decision, choice, strike, Ledger, same, inForce}
 use Rattle.ledger.specs.Laws.{same-at, same-self}
 use Rattle.session.specs.declared.Session.{Session}

@@ -1,6 +1,5 @@
 // The decisions in force, as masks.
 ghost use mathlib.Core.Path.{_≡_};
-ghost use mathlib.Core.Bool.{true};
 ghost use Prim.Native.Nat.{_<_};
 ghost use Rattle.session.specs.Decisions.{decisionOf, heldIn, gained, lost};
 ghost use Rattle.session.specs.Events.{reverses, undone};

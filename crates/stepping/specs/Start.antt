@@ -1,7 +1,7 @@
 -- The start set, as code makes it from masks. Assumes nothing.
 use mathlib.Core.Path.{_≡_, refl, sym, ap, ap₂, _∙_, fun-ext}
 use mathlib.Core.Logic.{⊎-elim}
-use mathlib.Core.Bool.{Bool, true, false, not, _&&_, and-false}
+use mathlib.Core.Bool.{Bool, true, false, not, _&&_}
 use mathlib.Core.List.{List}
 use Prim.Native.Nat.{ℕ, _+_, _-_, _*_, _%_, _^_, _≤_, _<_}
 use native.Mathlib.Nat.{eq-or-lt-of-le}
@@ -11,18 +11,17 @@ use lib.Dec.{eqb, ltb}
 use lib.ListN.{length, getD, set, replicate, length-set, length-replicate, List·getD-eq-default}
 use lib.Pow.{pow-mono, pow-pos}
 use lib.Seq.{getD-set-same, getD-set-other, ext-getD}
-use borrow.Author.Tests.{eqb-true, eq-eqb, ne-eqb, ltb-true, ltb-false, lt-ltb, le-ltb}
+use borrow.Author.Tests.{eqb-true, eq-eqb, ltb-true, ltb-false, lt-ltb}
 use Rattle.masks.specs.Tests.{never, not-so, bool-cases, iff-eq, eq-cases, and-l, and-r, and-by, allBelow, allBelow-at, allBelow-by, _⇒_, ⇒-at, ⇒-by}
 use Rattle.masks.specs.Bits.{bit, bit-of-zero, bit-ext, bit-nonzero, bit-some}
-use Rattle.masks.specs.Masks.{maskOf, bit-maskOf, maskOf-all, maskOf-in, maskOf-lt}
+use Rattle.masks.specs.Masks.{maskOf, bit-maskOf, maskOf-all, maskOf-lt}
 use Rattle.masks.specs.Loops.{mask-cong}
 use Rattle.masks.specs.Words.{one-shl, bit-and, bit-and-not, clear, bit-clear, clear-other, Lowest}
 use Rattle.masks.specs.Sets.{has, getD-zeros, pad, length-pad, getD-pad}
 use Rattle.accepted.specs.Parts.{fieldsOf, countOf}
-use Rattle.ledger.specs.Ledger.{Decision, choice, strike, inForce, starts, startSet}
+use Rattle.ledger.specs.Ledger.{choice, strike, starts, startSet}
 use Rattle.ledger.specs.Lists.{tabulate, length-tabulate, getD-tabulate}
 use Rattle.session.specs.declared.decisions.Decisions.{Decisions}
-use Rattle.session.specs.Decisions.{heldIn}
 use Rattle.session.specs.View.{decisionsOf, inForce-of}
 
 -- position v of a field with d settings is in the start set

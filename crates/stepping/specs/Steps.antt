@@ -1,8 +1,8 @@
 -- The session after a call that is accepted, and that it shows the ledger's step. Assumes nothing.
 use mathlib.Core.Path.{_≡_, refl, sym, ap, _∙_}
-use mathlib.Core.Bool.{Bool, true, false}
-use mathlib.Core.List.{List, [], _∷_}
-use Prim.Native.Nat.{ℕ, zero, suc, _+_, _-_, _≤_, _<_}
+use mathlib.Core.Bool.{true}
+use mathlib.Core.List.{[], _∷_}
+use Prim.Native.Nat.{ℕ, _+_, _-_, _≤_, _<_}
 use native.Mathlib.Numerals.{add-one}
 use native.Mathlib.Omega.{arith}
 use lib.Dec.{leb}
@@ -14,8 +14,8 @@ use Rattle.masks.specs.Sets.{has, getD-zeros}
 use Rattle.masks.specs.Pick.{pick, pick-true, pick-false}
 use Rattle.ledger.specs.declared.Call.{Call}
 use Rattle.ledger.specs.declared.Call.the-variants.{Open, Show, Choose, Strike, WithdrawChoice, WithdrawStrike, Back, CoilOn}
-use Rattle.ledger.specs.Ledger.{Decision, choice, strike, Event, Ledger, inForce, without, reversed, step}
-use Rattle.ledger.specs.Laws.{Alike, Same, same-ledger}
+use Rattle.ledger.specs.Ledger.{Decision, choice, strike, Event, inForce, without, reversed, step}
+use Rattle.ledger.specs.Laws.{Same, same-ledger}
 use Rattle.session.specs.declared.Event.{Event as EventWords}
 use Rattle.session.specs.declared.Session.{Session}
 use Rattle.session.specs.declared.decisions.Decisions.{Decisions}

@@ -1,6 +1,6 @@
 // The session after a call that is accepted.
 ghost use mathlib.Core.Path.{_≡_};
-ghost use Prim.Native.Nat.{_<_, _≤_};
+ghost use Prim.Native.Nat.{_<_};
 ghost use Rattle.ledger.specs.declared.Call.the-variants.{Back};
 ghost use Rattle.session.specs.View.{decisionsIn};
 ghost use Rattle.stepping.specs.Steps.{begun, pushed, recorded, stepped, RecordAsks, BackAsks, StepAsks};

@@ -2,13 +2,10 @@
 -- ledger says, whatever the session held before and whatever decision, engine, order and spaces each call is given. A call is known by its own
 -- contract alone (`Inner`, `Outer`); some may take the session by value and some by reference.
 use mathlib.Core.Path.{_≡_, refl, sym, ap, _∙_}
-use mathlib.Core.Bool.{Bool, true, false}
 use mathlib.Core.List.{List, [], _∷_}
 use Prim.Native.Nat.{ℕ}
-use lib.Dec.{eqb}
 use borrow.Author.Tests.{eq-eqb}
-use Rattle.masks.specs.Pick.{pick, pick-true}
-use Rattle.sheet.specs.Judge.{numbers, ofBytes}
+use Rattle.masks.specs.Pick.{pick-true}
 use Rattle.ledger.specs.declared.Call.{Call}
 use Rattle.ledger.specs.Ledger.{Ledger, Given, inForce, offersOf, step, number, causes, judged, malformed, after}
 use Rattle.ledger.specs.Laws.{Same, same-ledger}

@@ -1,13 +1,12 @@
 -- What demand 3 says of a sequence of calls: after every call, number, decisions, events and offers are those of the ledger, which is fed the
 -- calls and what they are given, and never the session. Assumes nothing.
 use mathlib.Core.Path.{_≡_}
-use mathlib.Core.Bool.{Bool}
 use mathlib.Core.List.{List, [], _∷_}
 use Prim.Native.Nat.{ℕ}
 use lib.ListN.{length, take, drop}
 use Rattle.sheet.specs.Judge.{numbers, ofBytes}
 use Rattle.accepted.specs.Parts.{fieldsOf}
-use Rattle.ledger.specs.Ledger.{Decision, Event, Ledger, Given, inForce, offersOf, number, after}
+use Rattle.ledger.specs.Ledger.{Decision, Ledger, Given, inForce, offersOf, number, after}
 use Rattle.session.specs.declared.Session.{Session}
 use Rattle.session.specs.Decisions.{heldIn}
 use Rattle.session.specs.Events.{past}

@@ -1,34 +1,29 @@
 -- One call, from what its contract says to what the ledger does. Assumes nothing.
 use mathlib.Core.Path.{_≡_, refl, sym, ap, _∙_}
-use mathlib.Core.Logic.{⊎-elim}
 use mathlib.Core.Bool.{Bool, true, false}
 use mathlib.Core.List.{List, _++_}
 use Prim.Native.Nat.{ℕ, _+_}
-use native.Mathlib.Omega.{arith}
 use lib.Dec.{eqb, leb}
-use lib.ListN.{length, take, drop, set, length-set, length-replicate}
+use lib.ListN.{length, drop, set, length-set, length-replicate}
 use lib.Seq.{take-at, drop-at}
-use borrow.Author.Tests.{eqb-true, eqb-false, eq-eqb}
-use Rattle.masks.specs.Tests.{never, eq-cases}
+use borrow.Author.Tests.{eqb-true, eqb-false}
 use Rattle.masks.specs.Pick.{pick, pick-true, pick-false}
-use Rattle.sheet.specs.Judge.{refusal, numbers, ofBytes}
 use Rattle.accepted.specs.Accept.{bytes-accepted}
-use Rattle.accepted.specs.Parts.{fieldsOf}
 use Rattle.ledger.specs.declared.Call.{Call}
 use Rattle.ledger.specs.declared.Call.the-variants.{Open, Show, Choose, Strike, WithdrawChoice, WithdrawStrike, Back, CoilOn}
-use Rattle.ledger.specs.Ledger.{Decision, Ledger, Given, inForce, step, offersOf, tooShort, first, judged, causes, number, after}
+use Rattle.ledger.specs.Ledger.{Decision, Ledger, Given, inForce, step, offersOf, number, after}
 use Rattle.ledger.specs.Laws.{Same, same-then, step-same, alike-offers, number-same}
 use Rattle.session.specs.declared.Session.{Session}
 use Rattle.session.specs.declared.decisions.Decisions.{Decisions}
 use Rattle.session.specs.Decisions.{heldIn, gained, lost, Long, gained-long, lost-long}
-use Rattle.session.specs.Events.{ofStrike, past, undone}
+use Rattle.session.specs.Events.{ofStrike, past}
 use Rattle.session.specs.View.{decisionsIn, view, inForce-of}
 use Rattle.session.specs.Form.{undone-long}
 use Rattle.stepping.specs.Steps.{recorded, latest, stepped}
 use Rattle.ledger.specs.Judging.{sheet-accepted, none-applies}
 use Rattle.answering.specs.Stepping.{shows-step}
 use Rattle.answering.specs.Settle.{offers-sized}
-use Rattle.answering.specs.Answer.{Answer, refused, accepted, written, answer, given, Answers}
+use Rattle.answering.specs.Answer.{Answer, refused, accepted, answer}
 use Rattle.theorem.specs.Turns.{Turn, Answered}
 use Rattle.theorem.specs.Follows.{Sized, givenTo, numbersOf, fields, next, Agrees}
 

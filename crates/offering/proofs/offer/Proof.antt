@@ -1,7 +1,6 @@
 use Prim.Native.Nat.{_≤_}
 use lib.ListN.{length}
 use mathlib.Core.Path.{sym}
-use native.Mathlib.Omega.{arith}
 use lib.Seq.{length-take-le}
 use Rattle.offering.specs.Offering.{engine-asks, offered}
 use borrow.Author.Needs.{needs}

@@ -1,11 +1,10 @@
 use borrow.Author.Tests.{not-false}
 use Rattle.answering.specs.Answering.{roomy, read-refused, read-accepted, read-front, read-ends, front-accepted, front-ok, answers-short, answers-read, answers-judged, answers-settled}
-use mathlib.Core.Path.{_≡_, sym, ap, _∙_}
-use native.Mathlib.Omega.{arith}
-use lib.ListN.{length, take, length-map}
+use mathlib.Core.Path.{_≡_, sym, _∙_}
+use lib.ListN.{length, length-map}
 use lib.Seq.{length-take-le}
 use Rattle.sheet.specs.Judge.{numbers, ofBytes}
-use Rattle.session.specs.View.{decisionsOf, decisionsIn, view}
+use Rattle.session.specs.View.{decisionsIn}
 use Rattle.session.specs.Decisions.{Long}
 use Rattle.ledger.specs.Judging.{clear}
 use Rattle.answering.specs.Stepping.{step-asks}

@@ -1,5 +1,4 @@
 -- `test` closes the cut set from the cut field.
-use native.Mathlib.Omega.{arith}
 use Rattle.closing.specs.Frame.{tested}
 use borrow.Author.Needs.{needs}
 use Rattle.closing.proofs.test.test.Statement.{statement}

@@ -1,4 +1,3 @@
-use mathlib.Core.Path.{_≡_, refl, sym, ap, _∙_}
 use native.Mathlib.Omega.{arith}
 use Rattle.masks.specs.Pick.{pick}
 use Rattle.judging.specs.Changes.{changeBy}

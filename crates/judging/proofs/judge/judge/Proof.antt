@@ -1,4 +1,4 @@
-use mathlib.Core.Path.{_≡_, refl, sym, ap, _∙_}
+use mathlib.Core.Path.{sym, ap, _∙_}
 use mathlib.Core.Bool.{not}
 use Rattle.session.specs.View.{view}
 use Rattle.ledger.specs.Judging.{judged-15, judged-7, judged-8, judged-9, judged-10, judged-11, judged-13, judged-12, judged-0}

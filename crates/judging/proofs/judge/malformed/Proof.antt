@@ -1,6 +1,5 @@
-use mathlib.Core.Path.{_≡_, refl, sym, ap, _∙_}
-use mathlib.Core.Bool.{Bool, not, _&&_}
-use Rattle.ledger.specs.Ledger.{isOpen, malformed}
+use mathlib.Core.Path.{sym, _∙_}
+use Rattle.ledger.specs.Ledger.{malformed}
 use borrow.Author.Needs.{needs}
 use Rattle.judging.proofs.judge.malformed.Statement.{statement}
 use Rattle.judging.proofs.judge.malformed.Tie as tie

@@ -1,7 +1,3 @@
-use mathlib.Core.Path.{_≡_, refl, sym, ap, _∙_}
-use mathlib.Core.Bool.{Bool, _&&_}
-use Prim.Native.Nat.{ℕ}
-use lib.Dec.{eqb}
 use Rattle.session.specs.Events.{length-past}
 use borrow.Author.Needs.{needs}
 use Rattle.judging.proofs.judge.nothing_past.Statement.{statement}

@@ -1,6 +1,3 @@
-use mathlib.Core.Path.{_≡_, refl, sym, ap, _∙_}
-use lib.Dec.{eqb, ltb}
-use mathlib.Core.Bool.{_&&_}
 use borrow.Author.Needs.{needs}
 use Rattle.judging.proofs.judge.too_narrow.Statement.{statement}
 use Rattle.judging.proofs.judge.too_narrow.Tie as tie

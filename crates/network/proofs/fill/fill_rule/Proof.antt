@@ -1,6 +1,5 @@
 use Rattle.network.specs.RuleFields.{fields-low, field-i, field-j}
 use Rattle.network.specs.RuleRows.{rows-rows, rule-stored}
-use native.Mathlib.Omega.{arith}
 use borrow.Author.Needs.{needs}
 use Rattle.network.proofs.fill.fill_rule.Statement.{statement}
 use Rattle.network.proofs.fill.fill_rule.Tie as tie

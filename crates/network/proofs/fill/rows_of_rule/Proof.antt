@@ -1,6 +1,5 @@
 use mathlib.Core.Path.{_≡_}
 use Prim.Native.Nat.{_-_, _≤_}
-use native.Mathlib.Omega.{arith}
 use borrow.Author.Needs.{needs}
 use Rattle.network.specs.RuleFields.{counts-few}
 use Rattle.network.specs.RuleRows.{RowsTo, rows-start, rows-next}

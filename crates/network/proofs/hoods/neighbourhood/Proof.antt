@@ -1,6 +1,6 @@
 -- `neighbourhood` widens the field itself, once for each rule of the reach.
 use mathlib.Core.Path.{_≡_}
-use Prim.Native.Nat.{ℕ, _-_, _≤_}
+use Prim.Native.Nat.{_-_, _≤_}
 use borrow.Author.Needs.{needs}
 use Rattle.network.specs.Hoods.{WithinFor, hood-start, hood-turn, hood-near, hood-whole}
 use Rattle.network.proofs.hoods.neighbourhood.Statement.{statement}

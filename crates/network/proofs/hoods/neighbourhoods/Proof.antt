@@ -1,6 +1,6 @@
 -- `neighbourhoods` makes one after the other.
 use mathlib.Core.Path.{_≡_, refl}
-use Prim.Native.Nat.{ℕ, _-_, _≤_}
+use Prim.Native.Nat.{_-_, _≤_}
 use borrow.Author.Needs.{needs}
 use Rattle.network.specs.Hoods.{HoodsTo, hoods-start, hoods-turn}
 use Rattle.network.proofs.hoods.neighbourhoods.Statement.{statement}

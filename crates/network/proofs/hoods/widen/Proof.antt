@@ -1,6 +1,6 @@
 -- `widen` adds the joined fields of one field after the other.
 use mathlib.Core.Path.{_≡_, sym, _∙_}
-use Prim.Native.Nat.{ℕ, _-_, _≤_}
+use Prim.Native.Nat.{_-_, _≤_}
 use borrow.Author.Needs.{needs}
 use Rattle.network.specs.Hoods.{Widening, widening-start, widening-in, widening-out}
 use Rattle.network.proofs.hoods.widen.Statement.{statement}

@@ -1,4 +1,3 @@
-use native.Mathlib.Omega.{arith}
 use Rattle.network.specs.Turned.{square-columns}
 use borrow.Author.Needs.{needs}
 use Rattle.network.proofs.turn.turn.Statement.{statement}

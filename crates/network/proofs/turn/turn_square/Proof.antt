@@ -1,6 +1,5 @@
-use mathlib.Core.Path.{_≡_, refl, _∙_}
+use mathlib.Core.Path.{_≡_, refl}
 use Prim.Native.Nat.{_-_, _≤_}
-use native.Mathlib.Omega.{arith}
 use borrow.Author.Needs.{needs}
 use Rattle.network.specs.Turned.{Square, square-start, square-next}
 use Rattle.network.proofs.turn.turn_square.Statement.{statement}

@@ -1,7 +1,6 @@
 use Prim.Native.Nat.{ℕ}
 use lib.Bits.{bitAnd}
-use mathlib.Core.Path.{_≡_, sym, ap, _∙_}
-use native.Mathlib.Omega.{arith}
+use mathlib.Core.Path.{sym, ap, _∙_}
 use Rattle.masks.specs.Words.{clear}
 use Rattle.stepping.specs.Start.{all-code, start-free, start-one, start-none}
 use borrow.Author.Needs.{needs}

@@ -1,4 +1,4 @@
-use mathlib.Core.Path.{_≡_, sym, ap, _∙_}
+use mathlib.Core.Path.{_∙_}
 use Rattle.stepping.specs.Steps.{recorded-added, recorded-lost}
 use borrow.Author.Needs.{needs}
 use Rattle.stepping.proofs.steps.record.Statement.{statement}
