@@ -9,7 +9,6 @@ use borrow.Author.Tests.{eq-eqb, ne-eqb, lt-ltb, le-ltb}
 use Rattle.masks.specs.Tests.{never}
 use Rattle.masks.specs.Pick.{pick}
 use Rattle.sheet.specs.Judge.{Accepted}
-use Rattle.ledger.specs.declared.Call.{Call}
 use Rattle.ledger.specs.Ledger.{Decision, choice, strike, Event, Change, adds, withdraws, neither, onSheet, offSheet, unknownArgument, addedAgain, withdrawnUnheld, noRoom}
 use Rattle.session.specs.declared.decisions.Decisions.{Decisions}
 use Rattle.session.specs.declared.Event.{Event as EventWords}
