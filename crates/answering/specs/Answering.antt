@@ -15,7 +15,7 @@ use Rattle.sheet.specs.declared.answer.Answer.{Answer as Read}
 use Rattle.accepted.specs.Accept.{bytes-accepted}
 use Rattle.accepted.specs.Theorems.{enough-room, most-sheet-numbers}
 use Rattle.ledger.specs.declared.Call.{Call}
-use Rattle.ledger.specs.Ledger.{Given, step, wiped, offersOf, tooShort, number, first, judged, causes}
+use Rattle.ledger.specs.Ledger.{Given, step, wiped, offersOf, tooShort, number, first, judged, causes, offersWords, rowsWords, memoryWords}
 use Rattle.session.specs.declared.Session.{Session}
 use Rattle.session.specs.View.{view, decisionsOf, decisionsIn}
 use Rattle.stepping.specs.Steps.{stepped}
@@ -23,16 +23,16 @@ use Rattle.ledger.specs.Laws.{Same, alike-wiped, alike-offers}
 use Rattle.session.specs.Decisions.{Long}
 use Rattle.ledger.specs.Judging.{Clear, causes-early, causes-14, causes-0}
 use Rattle.answering.specs.Settle.{Settled}
-use Rattle.answering.specs.Stepping.{shows-step}
+use Rattle.answering.specs.TakesStep.{shows-step}
 use Rattle.answering.specs.Answer.{Answer, refused, answer, given, Answers}
 
 -- too short, by lengths
 abbrev pub shortBy : (offers rows memory : ℕ) → Bool
-shortBy offers rows memory = ltb offers 24 || (ltb rows 13248 || ltb memory 13824)
+shortBy offers rows memory = ltb offers offersWords || (ltb rows rowsWords || ltb memory memoryWords)
 
 -- enough room
-pub roomy : (offers rows memory : ℕ) → shortBy offers rows memory ≡ false → (24 ≤ offers) × (13248 ≤ rows) × (13824 ≤ memory)
-roomy offers rows memory e = (ltb-false _ _ (one _ _ e), ltb-false _ _ (one _ _ (two (ltb offers 24) _ e)), ltb-false _ _ (two (ltb rows 13248) _ (two (ltb offers 24) _ e)))
+pub roomy : (offers rows memory : ℕ) → shortBy offers rows memory ≡ false → (offersWords ≤ offers) × (rowsWords ≤ rows) × (memoryWords ≤ memory)
+roomy offers rows memory e = (ltb-false _ _ (one _ _ e), ltb-false _ _ (one _ _ (two (ltb offers offersWords) _ e)), ltb-false _ _ (two (ltb rows rowsWords) _ (two (ltb offers offersWords) _ e)))
   where
     one : (a b : Bool) → (a || b) ≡ false → a ≡ false
     one true b e = e
@@ -44,7 +44,7 @@ roomy offers rows memory e = (ltb-false _ _ (one _ _ e), ltb-false _ _ (one _ _ 
 
 -- ---- the sheet, read into the memory
 
-module _ (sheet memory : List ℕ) (long : 13824 ≤ length memory) (r : Read) (memory′ : List ℕ) (g : Gives (reading sheet memory) r memory′) where
+module _ (sheet memory : List ℕ) (long : memoryWords ≤ length memory) (r : Read) (memory′ : List ℕ) (g : Gives (reading sheet memory) r memory′) where
   abbrev xs : List ℕ
   xs = numbers (ofBytes sheet)
 

@@ -1,4 +1,4 @@
 pub mod Answer
 pub mod Settle
-pub mod Stepping
+pub mod TakesStep
 pub mod Answering

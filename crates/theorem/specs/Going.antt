@@ -21,7 +21,7 @@ use Rattle.session.specs.View.{decisionsIn, view, inForce-of}
 use Rattle.session.specs.Form.{undone-long}
 use Rattle.stepping.specs.Steps.{recorded, latest, stepped}
 use Rattle.ledger.specs.Judging.{sheet-accepted, none-applies}
-use Rattle.answering.specs.Stepping.{shows-step}
+use Rattle.answering.specs.TakesStep.{shows-step}
 use Rattle.answering.specs.Settle.{offers-sized}
 use Rattle.answering.specs.Answer.{Answer, refused, accepted, answer}
 use Rattle.theorem.specs.Turns.{Turn, Answered}

@@ -1,45 +1,7 @@
 //! Random sheets as lists of numbers, the same for the same seed.
 
 use crate::{Domains, MOST};
-
-/// A small generator of numbers (splitmix64).
-pub struct Random(pub u64);
-
-impl Random {
-    pub fn word(&mut self) -> u64 {
-        self.0 = self.0.wrapping_add(0x9E37_79B9_7F4A_7C15);
-        let mut x = self.0;
-        x = (x ^ (x >> 30)).wrapping_mul(0xBF58_476D_1CE4_E5B9);
-        x = (x ^ (x >> 27)).wrapping_mul(0x94D0_49BB_1331_11EB);
-        x ^ (x >> 31)
-    }
-
-    /// A number below n.
-    pub fn below(&mut self, n: usize) -> usize {
-        (self.word() % n as u64) as usize
-    }
-
-    pub fn shuffle<T>(&mut self, list: &mut [T]) {
-        for k in (1..list.len()).rev() {
-            list.swap(k, self.below(k + 1));
-        }
-    }
-
-    /// Every number below n once, in random order.
-    pub fn order(&mut self, n: usize) -> Vec<u8> {
-        let mut order: Vec<u8> = (0..n as u8).collect();
-        self.shuffle(&mut order);
-        order
-    }
-
-    /// The given share of `total` places, marked at random.
-    fn marks(&mut self, total: usize, share: f64) -> Vec<bool> {
-        let marked = (share * total as f64).round() as usize;
-        let mut marks: Vec<bool> = (0..total).map(|k| k < marked).collect();
-        self.shuffle(&mut marks);
-        marks
-    }
-}
+pub use random::Random;
 
 /// A class of random sheets whose rules are all of kind 0.
 #[derive(Clone, Copy, Debug, PartialEq)]

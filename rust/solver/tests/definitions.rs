@@ -1,19 +1,7 @@
 //! The solver's largest sets against the definitions taken word by word: every subset of a small set is looked at.
 
+use random::Random;
 use solver::{Network, Rule, Set, Sheet, MOST};
-
-/// A small generator of numbers (splitmix64).
-struct Random(u64);
-
-impl Random {
-    fn below(&mut self, n: usize) -> usize {
-        self.0 = self.0.wrapping_add(0x9E37_79B9_7F4A_7C15);
-        let mut x = self.0;
-        x = (x ^ (x >> 30)).wrapping_mul(0xBF58_476D_1CE4_E5B9);
-        x = (x ^ (x >> 27)).wrapping_mul(0x94D0_49BB_1331_11EB);
-        ((x ^ (x >> 31)) % n as u64) as usize
-    }
-}
 
 /// At most five fields and nine settings in all.
 fn small_sheet(random: &mut Random) -> Sheet {

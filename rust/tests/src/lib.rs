@@ -10,7 +10,6 @@ pub mod forge;
 pub mod gadgets;
 pub mod linked;
 pub mod planted;
-pub mod random;
 pub mod runner;
 pub mod shapes;
 pub mod sheets;

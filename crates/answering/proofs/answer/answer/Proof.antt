@@ -7,7 +7,7 @@ use Rattle.sheet.specs.Judge.{numbers, ofBytes}
 use Rattle.session.specs.View.{decisionsIn}
 use Rattle.session.specs.Decisions.{Long}
 use Rattle.ledger.specs.Judging.{clear}
-use Rattle.answering.specs.Stepping.{step-asks}
+use Rattle.answering.specs.TakesStep.{step-asks}
 use Rattle.answering.specs.Answering.{roomy, read-refused, read-accepted, read-front, read-ends, front-accepted, answers-short, answers-read, answers-judged, answers-settled}
 use borrow.Author.Needs.{needs}
 use Rattle.answering.proofs.answer.answer.Statement.{statement}

@@ -14,14 +14,13 @@ use Rattle.ledger.specs.declared.Call.{Call}
 use Rattle.ledger.specs.declared.Call.the-variants.{Open, Show, Choose, Strike, WithdrawChoice, WithdrawStrike, Back, CoilOn}
 use Rattle.ledger.specs.Ledger.{choice, changeOf, step, isOpen, onSheet, reversible, illFormed, malformed, offSheet, unknownArgument, noRoom}
 use Rattle.ledger.specs.Laws.{Same}
-use Rattle.ledger.specs.Judging.{or-right, not-back, well-formed}
+use Rattle.ledger.specs.Judging.{Clear, or-right, not-back, well-formed}
 use Rattle.session.specs.declared.Session.{Session}
 use Rattle.session.specs.Decisions.{decisionOf, Long}
 use Rattle.session.specs.Events.{eventBy, past, length-past, past-latest, reverses}
 use Rattle.session.specs.View.{decisionsOf, decisionsIn, view}
 use Rattle.session.specs.Form.{on-low, on-either, event-off, event-stuck}
 use Rattle.stepping.specs.Steps.{stepped, latest, RecordAsks, BackAsks, StepAsks, view-step}
-use Rattle.ledger.specs.Judging.{Clear}
 
 module _ (xs : List ℕ) (a : Accepted xs) (engine : ℕ) (order : List ℕ) (s : Session) where
   -- every call but open was judged by 15

@@ -1,5 +1,7 @@
 //! Random numbers, the same for the same seed.
 
+#![forbid(unsafe_code)]
+
 /// A small generator (splitmix64).
 #[derive(Clone, Debug)]
 pub struct Random(pub u64);
@@ -55,5 +57,13 @@ impl Random {
         let mut order: Vec<u8> = (0..n as u8).collect();
         self.shuffle(&mut order);
         order
+    }
+
+    /// The given share of `total` places, marked at random.
+    pub fn marks(&mut self, total: usize, share: f64) -> Vec<bool> {
+        let marked = (share * total as f64).round() as usize;
+        let mut marks: Vec<bool> = (0..total).map(|k| k < marked).collect();
+        self.shuffle(&mut marks);
+        marks
     }
 }
