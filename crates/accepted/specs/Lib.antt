@@ -15,5 +15,6 @@ pub mod Places
 pub mod Facts
 pub mod Order
 pub mod Theorems
+pub mod Reads
 pub mod Refused
 pub mod Cases

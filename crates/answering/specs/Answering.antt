@@ -1,19 +1,17 @@
 -- An answer, put together from its parts. Assumes nothing.
-use mathlib.Core.Path.{_≡_, refl, sym, ap, _∙_}
+use mathlib.Core.Path.{_≡_, refl, sym, _∙_}
 use mathlib.Core.Bool.{Bool, true, false, _||_}
 use mathlib.Core.List.{List}
 use Prim.Native.Nat.{ℕ, _≤_}
 use native.Mathlib.Omega.{arith}
 use lib.Dec.{eqb, ltb}
-use lib.ListN.{length, take}
-use lib.Seq.{take-at}
-use borrow.Author.Tests.{eq-eqb, ne-eqb, eqb-true, ltb-false}
+use lib.ListN.{length}
+use borrow.Author.Tests.{eq-eqb, ne-eqb, ltb-false}
 use Rattle.masks.specs.Tests.{never}
 use Rattle.masks.specs.Pick.{pick, pick-true, pick-false}
-use Rattle.sheet.specs.Judge.{refusal, numbers, ofBytes, Accepted, Gives, Outcome, giving, refusing, reading}
-use Rattle.sheet.specs.declared.answer.Answer.{Answer as Read}
+use Rattle.grammar.specs.Limits.{mostNumbers}
+use Rattle.sheet.specs.Judge.{refusal, numbers, ofBytes}
 use Rattle.accepted.specs.Accept.{bytes-accepted}
-use Rattle.accepted.specs.Theorems.{enough-room, most-sheet-numbers}
 use Rattle.ledger.specs.declared.Call.{Call}
 use Rattle.ledger.specs.Ledger.{Given, step, wiped, offersOf, tooShort, number, first, judged, causes, offersWords, rowsWords, memoryWords}
 use Rattle.session.specs.declared.Session.{Session}
@@ -30,9 +28,11 @@ use Rattle.answering.specs.Answer.{Answer, refused, answer, given, Answe
 abbrev pub shortBy : (offers rows memory : ℕ) → Bool
 shortBy offers rows memory = ltb offers offersWords || (ltb rows rowsWords || ltb memory memoryWords)
 
--- enough room
-pub roomy : (offers rows memory : ℕ) → shortBy offers rows memory ≡ false → (offersWords ≤ offers) × (rowsWords ≤ rows) × (memoryWords ≤ memory)
-roomy offers rows memory e = (ltb-false _ _ (one _ _ e), ltb-false _ _ (one _ _ (two (ltb offers offersWords) _ e)), ltb-false _ _ (two (ltb rows rowsWords) _ (two (ltb offers offersWords) _ e)))
+-- enough room, for the longest sheet too
+pub roomy : (offers rows memory : ℕ) → shortBy offers rows memory ≡ false → (offersWords ≤ offers) × (rowsWords ≤ rows) × (memoryWords ≤ memory) × (mostNumbers ≤ memory)
+roomy offers rows memory e =
+    let h = ltb-false _ _ (two (ltb rows rowsWords) _ (two (ltb offers offersWords) _ e)) in
+    (ltb-false _ _ (one _ _ e), ltb-false _ _ (one _ _ (two (ltb offers offersWords) _ e)), h, omega arith)
   where
     one : (a b : Bool) → (a || b) ≡ false → a ≡ false
     one true b e = e
@@ -41,50 +41,6 @@ roomy offers rows memory e = (ltb-false _ _ (one _ _ e), ltb-false _ _ (one _ _ 
     two : (a b : Bool) → (a || b) ≡ false → b ≡ false
     two true b e = absurd (never refl e)
     two false b e = e
-
--- ---- the sheet, read into the memory
-
-module _ (sheet memory : List ℕ) (long : memoryWords ≤ length memory) (r : Read) (memory′ : List ℕ) (g : Gives (reading sheet memory) r memory′) where
-  abbrev xs : List ℕ
-  xs = numbers (ofBytes sheet)
-
-  read-is : (t : Bool) → eqb (refusal (ofBytes sheet)) 0 ≡ t → reading sheet memory ≡ pick t (giving xs memory) (refusing (refusal (ofBytes sheet)) memory)
-  read-is t e = enough-room sheet memory (omega arith) ∙ ap (λ (b : Bool). pick b (giving xs memory) (refusing (refusal (ofBytes sheet)) memory)) e
-
-  pub read-refused : (r .number ≡ 0 → ⊥) → (r .number ≡ refusal (ofBytes sheet)) × (eqb (refusal (ofBytes sheet)) 0 ≡ false)
-  read-refused n = go (eqb (refusal (ofBytes sheet)) 0) refl
-    where
-      go : (t : Bool) → eqb (refusal (ofBytes sheet)) 0 ≡ t → (r .number ≡ refusal (ofBytes sheet)) × (eqb (refusal (ofBytes sheet)) 0 ≡ false)
-      go true e = absurd (n (ap (λ (a : Read). a .number) (g .answers ∙ ap (λ (o : Outcome). o .answer) (read-is true e ∙ pick-true _ _ _ refl))))
-      go false e = (ap (λ (a : Read). a .number) (g .answers ∙ ap (λ (o : Outcome). o .answer) (read-is false e ∙ pick-false _ _ _ refl)), e)
-
-  module _ (z : r .number ≡ 0) where
-    pub read-accepted : refusal (ofBytes sheet) ≡ 0
-    read-accepted = go (eqb (refusal (ofBytes sheet)) 0) refl
-      where
-        go : (t : Bool) → eqb (refusal (ofBytes sheet)) 0 ≡ t → refusal (ofBytes sheet) ≡ 0
-        go true e = eqb-true _ 0 e
-        go false e = sym (ap (λ (a : Read). a .number) (g .answers ∙ ap (λ (o : Outcome). o .answer) (read-is false e ∙ pick-false _ _ _ refl))) ∙ z
-
-    gave : reading sheet memory ≡ giving xs memory
-    gave = read-is true (eq-eqb _ 0 read-accepted) ∙ pick-true _ _ _ refl
-
-    count-is : r .length ≡ length xs
-    unfolding pick
-    count-is = ap (λ (a : Read). a .length) (g .answers ∙ ap (λ (o : Outcome). o .answer) gave)
-
-    -- the sheet's numbers stand at the front of the memory
-    pub read-front : take (r .length) memory′ ≡ xs
-    read-front = rw (g .outputs ∙ ap (λ (o : Outcome). o .output) gave) (take-at xs _ (r .length) (sym count-is))
-
-    pub read-ends : length memory′ ≡ length memory → r .length ≤ length memory′
-    read-ends e = let n = count-is in let k = most-sheet-numbers sheet read-accepted in omega arith
-
-    pub front-ok : Accepted xs
-    front-ok = bytes-accepted sheet read-accepted
-
-    pub front-accepted : Accepted (take (r .length) memory′)
-    front-accepted = rw read-front front-ok
 
 -- ---- the answer
 

@@ -5,15 +5,13 @@ use mathlib.Core.List.{List, [], _∷_}
 use Prim.Native.Nat.{ℕ, _≤_}
 use native.Mathlib.Omega.{arith}
 use lib.Dec.{eqb}
-use lib.ListN.{length, take, replicate, length-append}
-use lib.Seq.{take-at}
-use borrow.Author.Tests.{eq-eqb, eqb-true, le-ltb}
-use Rattle.masks.specs.Pick.{pick, pick-true, pick-false}
+use lib.ListN.{length, take, replicate}
+use borrow.Author.Tests.{eq-eqb, le-ltb}
+use Rattle.masks.specs.Pick.{pick-true, pick-false}
 use Rattle.grammar.specs.Limits.{mostNumbers}
-use Rattle.sheet.specs.Judge.{Accepted, Gives, Outcome, refusal, numbers, ofBytes, reading, giving, refusing, answered}
+use Rattle.sheet.specs.Judge.{Accepted, Gives, refusal, numbers, ofBytes, reading, answered}
 use Rattle.accepted.specs.Parts.{fieldsOf}
-use Rattle.accepted.specs.Accept.{bytes-accepted}
-use Rattle.accepted.specs.Theorems.{enough-room}
+use Rattle.accepted.specs.Reads.{read-refused, read-none, read-front, read-ends, front-accepted}
 use Rattle.sheet.specs.declared.answer.Answer.{Answer as Read}
 use Rattle.ledger.specs.declared.Call.the-variants.{Open}
 use Rattle.ledger.specs.Ledger.{Given, number, tooShort}
@@ -74,64 +72,22 @@ pub record Opened (sheet before : List ℕ) (r : Read) (front after : List ℕ) 
   pub ends : r .length ≤ length front
 
 module _ (sheet list : List ℕ) (room : mostNumbers ≤ length list) (r : Read) (front : List ℕ) (g : Gives (reading sheet list) r front) where
-  by : (t : Bool) → eqb (refusal (ofBytes sheet)) 0 ≡ t → reading sheet list ≡ pick t (giving (listOf sheet) list) (refusing (refusal (ofBytes sheet)) list)
-  by t e = enough-room sheet list room ∙ ap (λ (b : Bool). pick b (giving (listOf sheet) list) (refusing (refusal (ofBytes sheet)) list)) e
-
   -- the sheet is refused by 1 to 5
   module _ (n : r .number ≡ 0 → ⊥) where
-    refused : eqb (refusal (ofBytes sheet)) 0 ≡ false
-    refused = go (eqb (refusal (ofBytes sheet)) 0) refl
-      where
-        go : (t : Bool) → eqb (refusal (ofBytes sheet)) 0 ≡ t → eqb (refusal (ofBytes sheet)) 0 ≡ false
-        go true e = absurd (n (ap (λ (a : Read). a .number) (g .answers ∙ ap (λ (o : Outcome). o .answer) (by true e ∙ pick-true _ _ _ refl))))
-        go false e = e
-
-    given : reading sheet list ≡ refusing (refusal (ofBytes sheet)) list
-    given = by false refused ∙ pick-false _ _ _ refl
-
-    number-is : r .number ≡ refusal (ofBytes sheet)
-    number-is = ap (λ (a : Read). a .number) (g .answers ∙ ap (λ (o : Outcome). o .answer) given)
-
-    length-is : r .length ≡ 0
-    length-is = ap (λ (a : Read). a .length) (g .answers ∙ ap (λ (o : Outcome). o .answer) given) ∙ pick-false _ _ _ refused
-
     -- open's number is the same
     pub opened-refused : (before : List ℕ) → 24 ≤ length before → Opened sheet before r front before
     opened-refused before l =
-        let same = opening-refused sheet (fieldsOf (listOf sheet)) before l refused in
+        let same = opening-refused sheet (fieldsOf (listOf sheet)) before l (read-refused sheet list room r front g n .1) in
         record {
-          number = number-is ∙ sym (ap (λ (a : Answer). a .number) same);
+          number = read-refused sheet list room r front g n .0 ∙ sym (ap (λ (a : Answer). a .number) same);
           offers = sym (ap (λ (a : Answer). a .offers) same);
           numbers = λ z. absurd (n z);
           accepted = λ z. absurd (n z);
-          ends = omega (arith, length-is);
+          ends = omega (arith, read-none sheet list room r front g n);
         }
 
   -- the sheet is read
   module _ (z : r .number ≡ 0) where
-    accepted-bytes : refusal (ofBytes sheet) ≡ 0
-    accepted-bytes = go (eqb (refusal (ofBytes sheet)) 0) refl
-      where
-        go : (t : Bool) → eqb (refusal (ofBytes sheet)) 0 ≡ t → refusal (ofBytes sheet) ≡ 0
-        go true e = eqb-true _ 0 e
-        go false e = sym (ap (λ (a : Read). a .number) (g .answers ∙ ap (λ (o : Outcome). o .answer) (by false e ∙ pick-false _ _ _ refl))) ∙ z
-
-    gave : reading sheet list ≡ giving (listOf sheet) list
-    gave = by true (eq-eqb _ 0 accepted-bytes) ∙ pick-true _ _ _ refl
-
-    count-is : r .length ≡ length (listOf sheet)
-    unfolding pick
-    count-is = ap (λ (a : Read). a .length) (g .answers ∙ ap (λ (o : Outcome). o .answer) gave)
-
-    pub front-is : take (r .length) front ≡ listOf sheet
-    front-is = rw (g .outputs ∙ ap (λ (o : Outcome). o .output) gave) (take-at (listOf sheet) _ (r .length) (sym count-is))
-
-    pub front-accepted : Accepted (take (r .length) front)
-    front-accepted = rw front-is (bytes-accepted sheet accepted-bytes)
-
-    pub front-ends : r .length ≤ length front
-    front-ends = rw (g .outputs ∙ ap (λ (o : Outcome). o .output) gave) (simp length-append (omega (arith, count-is)))
-
     -- open's answer, with the length of the list that was read
     pub opened-read : (before : List ℕ) (k : ℕ) (after : List ℕ) (a : Read) → a ≡ answered k (r .length)
         → (k ≡ opening sheet (fieldsOf (listOf sheet)) before .number) × (after ≡ opening sheet (fieldsOf (listOf sheet)) before .offers)
@@ -140,8 +96,8 @@ module _ (sheet list : List ℕ) (room : mostNumbers ≤ length list) (r : Read)
         record {
           number = ap (λ (x : Read). x .number) e ∙ o .0;
           offers = o .1;
-          numbers = λ y. rw (size y) front-is;
-          accepted = λ y. rw (size y) front-accepted;
+          numbers = λ y. rw (size y) (read-front sheet list room r front g z);
+          accepted = λ y. rw (size y) (front-accepted sheet list room r front g z);
           ends = go (eqb k 0) refl;
         }
       where
@@ -149,5 +105,5 @@ module _ (sheet list : List ℕ) (room : mostNumbers ≤ length list) (r : Read)
         size y = ap (λ (x : Read). x .length) e ∙ pick-true _ _ _ (eq-eqb _ 0 (sym (ap (λ (x : Read). x .number) e) ∙ y))
 
         go : (t : Bool) → eqb k 0 ≡ t → a .length ≤ length front
-        go true q = let h = front-ends in rw (ap (λ (x : Read). x .length) e ∙ pick-true _ _ _ q) h
+        go true q = let h = read-ends sheet list room r front g z in rw (ap (λ (x : Read). x .length) e ∙ pick-true _ _ _ q) h
         go false q = let h : a .length ≡ 0 = ap (λ (x : Read). x .length) e ∙ pick-false _ _ _ q in omega arith

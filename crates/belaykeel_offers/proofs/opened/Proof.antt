@@ -5,7 +5,8 @@ use borrow.Author.Needs.{needs}
 use denote.Ref.{now}
 use Rattle.accepted.specs.Facts.{facts}
 use Rattle.accepted.specs.Parts.{fieldsOf}
-use Rattle.belaykeel_offers.specs.Opening.{opened-refused, opened-read, front-is, front-ends, front-accepted}
+use Rattle.accepted.specs.Reads.{read-front, read-ends, front-accepted}
+use Rattle.belaykeel_offers.specs.Opening.{opened-refused, opened-read}
 use Rattle.belaykeel_offers.proofs.opened.Statement.{statement}
 use Rattle.belaykeel_offers.proofs.opened.Tie as tie
 
@@ -18,12 +19,12 @@ returns c =
 slice-reshare-prefix-fields : tie.Need-slice-reshare-prefix-fields
 slice-reshare-prefix-fields c =
     let s = c .before .before .before .before .before .before .before .before in
-    front-ends (now (s .args .sheet)) (now (s .args .numbers)) (s .pre .0) _ _ (c .before .before .before .before .read .ensures) (c .if1 .left)
+    read-ends (now (s .args .sheet)) (now (s .args .numbers)) (s .pre .0) _ _ (c .before .before .before .before .read .ensures) (c .if1 .left)
 
 slice-aggregate-fields : tie.Need-slice-aggregate-fields
 slice-aggregate-fields c =
     let s = c .before .before .before .before .before .before .before .before .before in
-    sym (length-take-le _ _ (front-ends (now (s .args .sheet)) (now (s .args .numbers)) (s .pre .0) _ _ (c .before .before .before .before .before .read .ensures) (c .before .if1 .left)))
+    sym (length-take-le _ _ (read-ends (now (s .args .sheet)) (now (s .args .numbers)) (s .pre .0) _ _ (c .before .before .before .before .before .read .ensures) (c .before .if1 .left)))
 
 fields-requires : tie.Need-fields-requires
 fields-requires c κs =
@@ -43,7 +44,7 @@ returns-2 c =
     let s = c .before .before .before .before .before .before .before .before .before .before .before .before .before in
     let r = c .before .before .before .before .before .before .before .before .before .read in
     let z = c .before .before .before .before .before .if1 .left in
-    let e = front-is (now (s .args .sheet)) (now (s .args .numbers)) (s .pre .0) _ _ (r .ensures) z in
+    let e = read-front (now (s .args .sheet)) (now (s .args .numbers)) (s .pre .0) _ _ (r .ensures) z in
     opened-read (now (s .args .sheet)) (now (s .args .numbers)) (s .pre .0) _ _ (r .ensures) z (now (s .args .offers)) _ _ _ (c .answered .ensures)
     (rw (c .before .before .before .fields .ensures ∙ ap fieldsOf e) at (c .before .open-rising .ensures))
 
