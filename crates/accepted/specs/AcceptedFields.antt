@@ -10,7 +10,7 @@ use lib.ListN.{length, getD, set, length-set}
 use lib.Seq.{getD-set-same, getD-set-other}
 use borrow.Author.Tests.{leb-true, ltb-true, ltb-false, eqb-true, eqb-false}
 use Rattle.masks.specs.Pick.{pick}
-use Rattle.grammar.specs.Limits.{mostSettings, largestSetting}
+use Rattle.limits.specs.Limits.{mostSettings, largestSetting}
 use Rattle.grammar.specs.Grammar.{step, afterField, afterSetting}
 use Rattle.sheet.specs.Judge.{judge, ofNumbers}
 use Rattle.accepted.specs.Sheets.{fieldsNumbers, Rises, rises-none, rises-one, FieldRight}

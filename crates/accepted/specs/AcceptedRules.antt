@@ -8,7 +8,7 @@ use native.Mathlib.Omega.{arith}
 use lib.Dec.{ltb, leb, eqb}
 use lib.ListN.{length, getD}
 use borrow.Author.Tests.{leb-true, ltb-true, eqb-true, eqb-false}
-use Rattle.grammar.specs.Limits.{largestSetting, lastKind}
+use Rattle.limits.specs.Limits.{largestSetting, lastKind}
 use Rattle.grammar.specs.Grammar.{step, afterRule, afterMask, afterKind, key, rising}
 use Rattle.sheet.specs.Judge.{judge, ofNumbers}
 use Rattle.accepted.specs.Sheets.{Rule, rulesNumbers, Below, below-none, below-one, RuleRight, Ruled, ruled-none, ruled-one}

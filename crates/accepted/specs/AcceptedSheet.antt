@@ -9,7 +9,7 @@ use lib.Dec.{ltb, leb}
 use lib.ListN.{length, getD}
 use borrow.Author.Tests.{lt-ltb, leb-true}
 use Rattle.masks.specs.Pick.{pick-true}
-use Rattle.grammar.specs.Limits.{mostFields, mostReach, mostRules}
+use Rattle.limits.specs.Limits.{mostFields, wholeReach, mostRules}
 use Rattle.grammar.specs.Grammar.{step, noCounts, afterRule}
 use Rattle.sheet.specs.Judge.{judge, ofNumbers, Accepted}
 use Rattle.accepted.specs.Sheets.{Rule, fieldsNumbers, sheetNumbers, ValuesRight, Ruled, ruled-none, ruled-one, IsSheet}
@@ -33,7 +33,7 @@ ruled-same n floor d d′ rs h (ruled-one {r = r} {rs = ts} l g t) =
     (ruled-same n _ d d′ ts h t)
 
 sheet-of : (n reach e : ℕ) (ys zs : List ℕ) → 1 ≤ n → n ≤ mostFields → (t : FieldsIn 0 n n noCounts ys) → t .rest ≡ reach ∷ e ∷ zs
-    → 1 ≤ reach → reach ≤ mostReach → e ≤ mostRules → judge (afterRule n e 0) (t .counts) (ofNumbers zs) ≡ 0 → IsSheet (n ∷ ys)
+    → 1 ≤ reach → reach ≤ wholeReach → e ≤ mostRules → judge (afterRule n e 0) (t .counts) (ofNumbers zs) ≡ 0 → IsSheet (n ∷ ys)
 unfolding sheetNumbers
 sheet-of n reach e ys zs p q t z a b c on =
     let u = rules-in e 0 n (t .counts) zs (λ k h. rw (same k h) (t .right k (rw (t .size) h) .some)) on in
@@ -70,5 +70,5 @@ sheet-in (n ∷ ys) e =
     go p q t (reach ∷ k ∷ zs) z on =
         let r = ranged-in _ _ (t .counts) (ofNumbers (k ∷ zs)) on in
         let m = ranged-in (leb k mostRules) _ (t .counts) (ofNumbers zs) (r .1) in
-        let b = upTo-le mostReach reach (r .0) in
+        let b = upTo-le wholeReach reach (r .0) in
         sheet-of n reach k ys zs p q t z (b .0) (b .1) (leb-true k mostRules (m .0)) (m .1)

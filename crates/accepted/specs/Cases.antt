@@ -4,7 +4,7 @@ use mathlib.Core.List.{List, [], _∷_}
 use Prim.Native.Nat.{ℕ, _+_}
 use Rattle.masks.specs.Pick.{pick}
 use Rattle.groups.specs.Groups.{groups, numberAt, encode, encodeIn}
-use Rattle.grammar.specs.Limits.{largestSetting}
+use Rattle.limits.specs.Limits.{largestSetting}
 use Rattle.grammar.specs.Grammar.{step}
 use Rattle.sheet.specs.Judge.{judge, refusal, numbers, items, ofBytes, ofNumbers, bytesOf}
 

@@ -5,7 +5,7 @@ use mathlib.Core.List.{List, []}
 use Prim.Native.Nat.{ℕ, zero, suc, _+_, _^_, _<_, _≤_}
 use native.Mathlib.Omega.{arith}
 use lib.ListN.{length, getD}
-use Rattle.grammar.specs.Limits.{mostFields, mostSettings, largestSetting, mostReach, mostRules, lastKind}
+use Rattle.limits.specs.Limits.{mostFields, mostSettings, largestSetting, wholeReach, mostRules, lastKind}
 use Rattle.grammar.specs.Grammar.{key}
 use Rattle.sheet.specs.Judge.{Accepted}
 use Rattle.accepted.specs.Sheets.{Rule, Sheet, Rises, rises-none, rises-one, Below, below-none, below-one, RuleRight, Ruled, ruled-none, ruled-one, counted, IsSheet}
@@ -25,7 +25,7 @@ pub record Facts (xs : List ℕ) : Type 0 where
   pub setting-rise : (f v : ℕ) → f < fieldsOf xs → suc v < countOf xs f → settingOf xs f v < settingOf xs f (suc v)
   pub tail-end : fieldStart xs (fieldsOf xs) + 2 ≤ length xs
   pub reach-some : 1 ≤ reachOf xs
-  pub reach-few : reachOf xs ≤ mostReach
+  pub reach-few : reachOf xs ≤ wholeReach
   pub rules-few : rulesOf xs ≤ mostRules
   pub rule-end : (r : ℕ) → r < rulesOf xs → ruleStart xs r + 3 < length xs
   pub rule-after : (r : ℕ) → r < rulesOf xs → ruleStart xs r + 3 + valuesAt xs (ruleStart xs r) ≤ length xs

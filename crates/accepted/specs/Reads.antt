@@ -9,7 +9,7 @@ use lib.ListN.{length, take, length-append}
 use lib.Seq.{take-at}
 use borrow.Author.Tests.{eq-eqb, eqb-true}
 use Rattle.masks.specs.Pick.{pick, pick-true, pick-false}
-use Rattle.grammar.specs.Limits.{mostNumbers}
+use Rattle.limits.specs.Limits.{mostNumbers}
 use Rattle.sheet.specs.Judge.{refusal, numbers, ofBytes, Accepted, Gives, Outcome, giving, refusing, reading}
 use Rattle.sheet.specs.declared.answer.Answer.{Answer}
 use Rattle.accepted.specs.Accept.{bytes-accepted}

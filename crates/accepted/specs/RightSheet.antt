@@ -11,7 +11,7 @@ use lib.ListN.{length, getD, set, length-set}
 use lib.Seq.{getD-set-same, getD-set-other}
 use borrow.Author.Tests.{lt-ltb, le-ltb, le-leb, eq-eqb, ne-eqb}
 use Rattle.masks.specs.Pick.{pick, pick-true, pick-false}
-use Rattle.grammar.specs.Limits.{mostFields, mostSettings, largestSetting, mostReach, mostRules, lastKind}
+use Rattle.limits.specs.Limits.{mostFields, mostSettings, largestSetting, wholeReach, mostRules, lastKind}
 use Rattle.grammar.specs.Grammar.{step, noCounts, upTo, afterField, afterRule, afterKind, key}
 use Rattle.sheet.specs.Judge.{Item, judge, ofNumbers, Accepted}
 use Rattle.accepted.specs.Sheets.{Rule, Sheet, fieldsNumbers, rulesNumbers, sheetNumbers, Rises, rises-none, rises-one, Below, below-none, below-one, FieldRight, ValuesRight, RuleRight, Ruled, ruled-none, ruled-one, Right, counted}
@@ -157,6 +157,6 @@ right-accepted s g =
     to-true _ _ _ noCounts (ofNumbers (fieldsNumbers fs ++ rest)) (upTo-by mostFields n p q)
     (ap (λ (l : State). judge l noCounts (ofNumbers (fieldsNumbers fs ++ rest))) (sym (pick-true (ltb 0 n) (Wants n (Count 0)) (Wants n Reach) (lt-ltb 0 n p)))
     ∙ fields-by fs 0 n noCounts rest (g .field) (zero-add n)
-    (to-true _ _ _ ds (ofNumbers (length (s .rules) ∷ rulesNumbers (s .rules))) (upTo-by mostReach (s .reach) (g .reach-some) (g .reach-few))
+    (to-true _ _ _ ds (ofNumbers (length (s .rules) ∷ rulesNumbers (s .rules))) (upTo-by wholeReach (s .reach) (g .reach-some) (g .reach-few))
     (to-true _ _ _ ds (ofNumbers (rulesNumbers (s .rules))) (le-leb (length (s .rules)) mostRules (g .rules-few))
     (rules-by 0 n ds (s .rules) (λ k h. rw (← same k h) (g .field k h .some)) (ruled-same n 0 (counted s) (dOf ds) (s .rules) same (g .ruled))))))

@@ -4,7 +4,7 @@ use mathlib.Core.Logic.{_⊎_}
 use mathlib.Core.List.{List, [], _∷_, _++_}
 use Prim.Native.Nat.{ℕ, _+_, _^_, _<_, _≤_}
 use lib.ListN.{length, getD}
-use Rattle.grammar.specs.Limits.{mostFields, mostSettings, largestSetting, mostReach, mostRules, lastKind}
+use Rattle.limits.specs.Limits.{mostFields, mostSettings, largestSetting, wholeReach, mostRules, lastKind}
 use Rattle.grammar.specs.Grammar.{key}
 
 -- a rule: its fields i and j, its kind, and its numbers: masks, or c
@@ -77,7 +77,7 @@ pub record Right (s : Sheet) : Type 0 where
   pub few : length (s .fields) ≤ mostFields
   pub field : (f : ℕ) → f < length (s .fields) → FieldRight (getD (s .fields) f [])
   pub reach-some : 1 ≤ s .reach
-  pub reach-few : s .reach ≤ mostReach
+  pub reach-few : s .reach ≤ wholeReach
   pub rules-few : length (s .rules) ≤ mostRules
   pub ruled : Ruled (length (s .fields)) (counted s) 0 (s .rules)
 

@@ -8,7 +8,7 @@ use lib.Dec.{eqb}
 use lib.ListN.{length, getD}
 use borrow.Author.Tests.{le-leb, eq-eqb, eqb-true}
 use Rattle.masks.specs.Pick.{pick, pick-true, pick-false}
-use Rattle.grammar.specs.Limits.{mostBytes, mostNumbers}
+use Rattle.limits.specs.Limits.{mostBytes, mostNumbers}
 use Rattle.sheet.specs.Judge.{refusal, numbers, ofBytes, ofNumbers, bytesOf, Accepted, AcceptedBytes, outcome, refusing, giving, reading, writing}
 use Rattle.accepted.specs.Round.{numbers-bytes, bytes-numbers}
 use Rattle.accepted.specs.Accept.{accepted-numbers, bytes-accepted}

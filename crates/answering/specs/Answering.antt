@@ -9,7 +9,7 @@ use lib.ListN.{length}
 use borrow.Author.Tests.{eq-eqb, ne-eqb, ltb-false}
 use Rattle.masks.specs.Tests.{never}
 use Rattle.masks.specs.Pick.{pick, pick-true, pick-false}
-use Rattle.grammar.specs.Limits.{mostNumbers}
+use Rattle.limits.specs.Limits.{mostNumbers}
 use Rattle.sheet.specs.Judge.{refusal, numbers, ofBytes}
 use Rattle.accepted.specs.Accept.{bytes-accepted}
 use Rattle.ledger.specs.declared.Call.{Call}

@@ -12,7 +12,7 @@ use lib.Seq.{take-take, take-all, length-take-le}
 use borrow.Author.Tests.{ltb-true, ltb-false, leb-true, eqb-false, ne-eqb}
 use Rattle.masks.specs.Tests.{and-l, and-r}
 use Rattle.masks.specs.Pick.{pick}
-use Rattle.grammar.specs.Refusals.{surplus, outOfRange, outOfOrder}
+use Rattle.limits.specs.Refusals.{SURPLUS, OUT-OF-RANGE, OUT-OF-ORDER}
 use Rattle.groups.specs.Groups.{groups, numberAt, lastGroup, groups-number, groups-nothing, groups-empty}
 use Rattle.sheet.specs.Judge.{Item, num, cut, ill, judge, refusal, itemsFrom, ofBytes}
 use Rattle.sheet.specs.Items.{from-num, from-cut, from-ill}
@@ -209,9 +209,9 @@ some n (Amount rules floor) = omega arith
 -- where no number may come, what follows is refused whatever it is
 past : State → ℕ
 past (Wants n e) = 0
-past Complete = surplus
-past OutOfRange = outOfRange
-past OutOfOrder = outOfOrder
+past Complete = SURPLUS
+past OutOfRange = OUT-OF-RANGE
+past OutOfOrder = OUT-OF-ORDER
 
 judged-past : (st : State) (ds : List ℕ) (i : Item) (is : List Item) → Fits 0 st ds → judge st ds (i ∷ is) ≡ past st
 unfolding judge past

@@ -8,7 +8,7 @@ use lib.Dec.{eqb}
 use lib.ListN.{length, take, replicate}
 use borrow.Author.Tests.{eq-eqb, le-ltb}
 use Rattle.masks.specs.Pick.{pick-true, pick-false}
-use Rattle.grammar.specs.Limits.{mostNumbers}
+use Rattle.limits.specs.Limits.{mostNumbers}
 use Rattle.sheet.specs.Judge.{Accepted, Gives, refusal, numbers, ofBytes, reading, answered}
 use Rattle.accepted.specs.Parts.{fieldsOf}
 use Rattle.accepted.specs.Reads.{read-refused, read-none, read-front, read-ends, front-accepted}

@@ -3,14 +3,14 @@
 ghost use mathlib.Core.Path.{_≡_};
 ghost use Prim.Native.Nat.{_<_, _≤_};
 ghost use lib.ListN.{length};
-ghost use Rattle.grammar.specs.Limits.{mostNumbers};
+ghost use Rattle.limits.specs.Limits.{mostNumbers};
 ghost use Rattle.sheet.specs.Judge.{Accepted};
 ghost use Rattle.accepted.specs.Parts.{Field, countOf};
 ghost use Rattle.belaykeel_offers.specs.Opening.{empty, opening, Opened};
 use accepted::parts;
-use grammar::limits::MOST_NUMBERS;
 use libc::STDIN_FILENO;
 use libc::STDOUT_FILENO;
+use limits::MOST_NUMBERS;
 use masks::has_bit;
 use session::Event;
 use session::Session;

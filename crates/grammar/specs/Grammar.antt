@@ -5,8 +5,8 @@ use Prim.Native.Nat.{ℕ, _+_, _-_, _*_, _^_}
 use lib.Dec.{ltb, leb, eqb}
 use lib.ListN.{getD, set, replicate}
 use Rattle.masks.specs.Pick.{pick}
-use Rattle.grammar.specs.Limits.{mostFields, mostSettings, largestSetting, mostReach, mostRules, lastKind}
-use Rattle.grammar.specs.Refusals.{endsInside, outOfRange, outOfOrder}
+use Rattle.limits.specs.Limits.{mostFields, mostSettings, largestSetting, wholeReach, mostRules, lastKind}
+use Rattle.limits.specs.Refusals.{ENDS-INSIDE, OUT-OF-RANGE, OUT-OF-ORDER}
 use Rattle.grammar.specs.declared.grammar.Expected.{Expected}
 use Rattle.grammar.specs.declared.grammar.Expected.the-variants.{Fields, Count, Setting, Reach, Rules, First, Second, Kind, Mask, Amount}
 use Rattle.grammar.specs.declared.grammar.State.{State}
@@ -58,7 +58,7 @@ unfoldable pub step : (n : ℕ) → Expected → (ds : List ℕ) → (x : ℕ) �
 step n Fields ds x = (ranged (upTo mostFields x) (Wants x (Count 0)), ds)
 step n (Count f) ds x = (ranged (upTo mostSettings x) (Wants n (Setting f (x - 1) 0)), set ds f x)
 step n (Setting f more floor) ds x = (ranged (leb x largestSetting) (ordered (leb floor x) (afterSetting n f more (x + 1))), ds)
-step n Reach ds x = (ranged (upTo mostReach x) (Wants n Rules), ds)
+step n Reach ds x = (ranged (upTo wholeReach x) (Wants n Rules), ds)
 step n Rules ds x = (ranged (leb x mostRules) (afterRule n x 0), ds)
 step n (First rules floor) ds x = (ranged (ltb x n) (Wants n (Second rules floor x)), ds)
 step n (Second rules floor i) ds x = (ranged (ltb x n) (ordered (rising i x floor) (Wants n (Kind rules i x))), ds)
@@ -75,7 +75,7 @@ noCounts = replicate mostFields 0
 
 -- the number of a source that ends here
 abbrev pub atEnd : State → ℕ
-atEnd (Wants n e) = endsInside
+atEnd (Wants n e) = ENDS-INSIDE
 atEnd Complete = 0
-atEnd OutOfRange = outOfRange
-atEnd OutOfOrder = outOfOrder
+atEnd OutOfRange = OUT-OF-RANGE
+atEnd OutOfOrder = OUT-OF-ORDER

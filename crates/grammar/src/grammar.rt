@@ -3,17 +3,17 @@ ghost use mathlib.Core.Path.{_≡_};
 ghost use Prim.Native.Nat.{_+_, _-_, _^_, _<_};
 ghost use lib.Dec.{ltb, leb};
 ghost use lib.ListN.{getD, set};
-ghost use Rattle.grammar.specs.Limits.{largestSetting, lastKind};
+ghost use Rattle.limits.specs.Limits.{largestSetting, lastKind};
 ghost use Rattle.grammar.specs.Grammar.{upTo, ranged, ordered, afterField, afterSetting, afterRule, afterMask, afterKind, key, rising, step, atEnd};
-use super::limits::LARGEST_SETTING;
-use super::limits::LAST_KIND;
-use super::limits::MOST_FIELDS;
-use super::limits::MOST_REACH;
-use super::limits::MOST_RULES;
-use super::limits::MOST_SETTINGS;
-use super::refusals::ENDS_INSIDE;
-use super::refusals::OUT_OF_ORDER;
-use super::refusals::OUT_OF_RANGE;
+use limits::LARGEST_SETTING;
+use limits::LAST_KIND;
+use limits::MOST_FIELDS;
+use limits::MOST_RULES;
+use limits::MOST_SETTINGS;
+use limits::WHOLE_REACH;
+use limits::refusals::ENDS_INSIDE;
+use limits::refusals::OUT_OF_ORDER;
+use limits::refusals::OUT_OF_RANGE;
 
 // What the next number is. `more` and `rules` count what is still to come after it of its field or rule and of the rules; `floor` is the least that may come: one more than the setting before, or than the key of the rule before.
 pub enum Expected {
@@ -226,7 +226,7 @@ pub fn step(n: u32, expected: Expected, counts: &mut [u32], x: u32) -> State
             )
         }
         Expected::Setting(f, more, floor) => setting(n, f, more, floor, x),
-        Expected::Reach => wants_if(up_to(MOST_REACH, x), n, Expected::Rules),
+        Expected::Reach => wants_if(up_to(WHOLE_REACH, x), n, Expected::Rules),
         Expected::Rules => rules_if(x <= MOST_RULES, n, x, 0),
         Expected::First(rules, floor) => wants_if(x < n, n, Expected::Second(rules, floor, x)),
         Expected::Second(rules, floor, i) => second(n, rules, floor, i, x),

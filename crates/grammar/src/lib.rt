@@ -1,4 +1,2 @@
-// The grammar of a sheet: its limits, what each number leads to, and what is refused.
+// The grammar of a sheet: what each number leads to, and what is refused.
 pub mod grammar;
-pub mod limits;
-pub mod refusals;

@@ -14,7 +14,8 @@ use Rattle.masks.specs.Bits.{bit, bit-ext, Within}
 use Rattle.masks.specs.Masks.{maskOf}
 use Rattle.masks.specs.Words.{bit-or}
 use Rattle.consistency.specs.Problem.{Problem, allFields}
-use Rattle.consistency.specs.Neighbourhood.{wholeReach, widen, widen-keeps, widen-adds, widen-at, fieldsWithin, within-bound, within-start, within-next, neighbourhood, neighbourhood-near, neighbourhood-whole}
+use Rattle.limits.specs.Limits.{wholeReach}
+use Rattle.consistency.specs.Neighbourhood.{widen, widen-keeps, widen-adds, widen-at, fieldsWithin, within-bound, within-start, within-next, neighbourhood, neighbourhood-near, neighbourhood-whole}
 
 -- A problem with these joined fields.
 pub record Joins (n : ℕ) (joined : List ℕ) (P : Problem) : Type 0 where

@@ -9,7 +9,7 @@ use Rattle.masks.specs.Pick.{pick}
 use Rattle.groups.specs.Groups.{numberAt, encode}
 use Rattle.groups.specs.declared.groups.Number.{Number}
 use Rattle.groups.specs.declared.groups.Number.the-variants.{Value, Ended, IllFormed}
-use Rattle.grammar.specs.Refusals.{endsInside, illFormed, outOfRange, outOfOrder, surplus, tooShort}
+use Rattle.limits.specs.Refusals.{ENDS-INSIDE, ILL-FORMED, OUT-OF-RANGE, OUT-OF-ORDER, SURPLUS, TOO-SHORT}
 use Rattle.grammar.specs.Grammar.{step, start, noCounts, atEnd}
 use Rattle.grammar.specs.declared.grammar.Expected.{Expected}
 use Rattle.grammar.specs.declared.grammar.State.{State}
@@ -25,15 +25,15 @@ pub data Item : Type 0 where
 -- The refusal of what stands at a place: 0 for a number.
 abbrev pub numberRefusal : Number → ℕ
 numberRefusal (Value x next) = 0
-numberRefusal Ended = endsInside
-numberRefusal IllFormed = illFormed
+numberRefusal Ended = ENDS-INSIDE
+numberRefusal IllFormed = ILL-FORMED
 
--- An item that follows: judged where a number is expected, surplus after the last rule, and a refusal stays.
+-- An item that follows: judged where a number is expected, SURPLUS after the last rule, and a refusal stays.
 abbrev pub meets : State → (ℕ → Expected → ℕ) → ℕ
 meets (Wants n e) judged = judged n e
-meets Complete judged = surplus
-meets OutOfRange judged = outOfRange
-meets OutOfOrder judged = outOfOrder
+meets Complete judged = SURPLUS
+meets OutOfRange judged = OUT-OF-RANGE
+meets OutOfOrder judged = OUT-OF-ORDER
 
 -- Item after item from a state on, with the counts ds of the fields so far: the first faulty one decides.
 unfoldable pub judge : State → List ℕ → List Item → ℕ
@@ -112,7 +112,7 @@ giving values before = record { answer = answered 0 (length values); output = va
 abbrev pub outcome : (number : ℕ) (values before : List ℕ) → Outcome
 outcome number values before =
     pick (eqb number 0)
-    (pick (leb (length values) (length before)) (giving values before) (refusing tooShort before))
+    (pick (leb (length values) (length before)) (giving values before) (refusing TOO-SHORT before))
     (refusing number before)
 
 -- Reading the bytes s to a list of numbers, over the output `before`.

@@ -12,7 +12,7 @@ use borrow.Author.Tests.{le-leb, lt-leb, eq-eqb, ne-eqb}
 use Rattle.masks.specs.Pick.{pick, pick-true, pick-false}
 use Rattle.groups.specs.Storing.{sets-front}
 use Rattle.groups.specs.Groups.{encode}
-use Rattle.grammar.specs.Refusals.{endsInside, illFormed, tooShort}
+use Rattle.limits.specs.Refusals.{ENDS-INSIDE, ILL-FORMED, TOO-SHORT}
 use Rattle.grammar.specs.Grammar.{step, atEnd}
 use Rattle.grammar.specs.declared.grammar.Expected.{Expected}
 use Rattle.grammar.specs.declared.grammar.Expected.the-variants.{Fields, Count, Setting, Reach, Rules, First, Second, Kind, Mask, Amount}
@@ -65,11 +65,11 @@ pub going-stays : {st : State} {ds : List ℕ} {is all : List Item} {count : ℕ
 going-stays {st = st} {ds = ds} {is = is} k h e p g = going-refused k h (stays st ds k is e (λ z. absurd (omega (arith, z, p)))) g
 
 -- an item that is no number, where one is expected
-pub judge-cut : (n : ℕ) (e : Expected) (ds : List ℕ) → judge (Wants n e) ds (cut ∷ []) ≡ endsInside
+pub judge-cut : (n : ℕ) (e : Expected) (ds : List ℕ) → judge (Wants n e) ds (cut ∷ []) ≡ ENDS-INSIDE
 unfolding judge
 judge-cut n e ds = refl
 
-pub judge-ill : (n : ℕ) (e : Expected) (ds : List ℕ) → judge (Wants n e) ds (ill ∷ []) ≡ illFormed
+pub judge-ill : (n : ℕ) (e : Expected) (ds : List ℕ) → judge (Wants n e) ds (ill ∷ []) ≡ ILL-FORMED
 unfolding judge
 judge-ill n e ds = refl
 
@@ -115,9 +115,9 @@ module _ (is : List Item) (values before : List ℕ) (a : Answer) (e : a ≡ che
       let z : eqb (refusal is) 0 ≡ false = ne-eqb _ 0 (λ q. h (number-is ∙ q)) in
       gives (refusing (refusal is) before) a before (pick-false _ _ _ z) (e ∙ ap (λ (l : ℕ). record { number = refusal is; length = l }) (pick-false _ _ _ z ∙ sym (pick-false _ 0 0 z))) refl
 
-  pub gives-short : (r : Answer) → a .number ≡ 0 → length before < a .length → r ≡ answered tooShort 0 → Gives (outcome (refusal is) values before) r before
+  pub gives-short : (r : Answer) → a .number ≡ 0 → length before < a .length → r ≡ answered TOO-SHORT 0 → Gives (outcome (refusal is) values before) r before
   gives-short r z h q =
-      gives (refusing tooShort before) r before
+      gives (refusing TOO-SHORT before) r before
       (pick-true _ _ _ (eq-eqb _ 0 (sym number-is ∙ z)) ∙ pick-false _ _ _ (lt-leb (length values) (length before) (rw (length-is z) at h))) q refl
 
   pub gives-room : a .number ≡ 0 → a .length ≤ length before → length values ≤ length before

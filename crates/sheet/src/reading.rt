@@ -3,7 +3,7 @@ ghost use mathlib.Core.Path.{_≡_};
 ghost use Prim.Native.Nat.{_≤_};
 ghost use lib.ListN.{length, replicate};
 ghost use lib.Seq.{sets};
-ghost use Rattle.grammar.specs.Limits.{mostFields};
+ghost use Rattle.limits.specs.Limits.{mostFields};
 ghost use Rattle.sheet.specs.Judge.{checked, Gives, reading, ofBytes, numbers};
 use super::answer::Answer;
 use super::answer::answered;
@@ -11,15 +11,15 @@ use grammar::grammar::Expected;
 use grammar::grammar::State;
 use grammar::grammar::at_end;
 use grammar::grammar::step;
-use grammar::limits::MOST_FIELDS;
-use grammar::refusals::ENDS_INSIDE;
-use grammar::refusals::ILL_FORMED;
-use grammar::refusals::OUT_OF_ORDER;
-use grammar::refusals::OUT_OF_RANGE;
-use grammar::refusals::SURPLUS;
-use grammar::refusals::TOO_SHORT;
 use groups::groups::Number;
 use groups::reader::read_number;
+use limits::MOST_FIELDS;
+use limits::refusals::ENDS_INSIDE;
+use limits::refusals::ILL_FORMED;
+use limits::refusals::OUT_OF_ORDER;
+use limits::refusals::OUT_OF_RANGE;
+use limits::refusals::SURPLUS;
+use limits::refusals::TOO_SHORT;
 
 // `counts` is room for the counts of the fields.
 fn check_with(sheet: &[u8], counts: &mut [u32]) -> Answer

@@ -1,9 +1,9 @@
 // Sheets that are read, written and refused: a line for each, with its number and its length.
 ghost use mathlib.Core.Path.{_≡_};
 ghost use lib.ListN.{length};
-use grammar::limits::MOST_BYTES;
-use grammar::limits::MOST_NUMBERS;
 use libc::STDOUT_FILENO;
+use limits::MOST_BYTES;
+use limits::MOST_NUMBERS;
 use sheet::reading::read;
 use sheet::writing::write;
 

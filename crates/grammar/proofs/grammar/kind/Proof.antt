@@ -2,7 +2,7 @@ use mathlib.Core.Path.{sym}
 use borrow.Author.Needs.{needs}
 use borrow.Author.Tests.{le-leb, lt-leb}
 use Rattle.masks.specs.Pick.{pick, pick-false}
-use Rattle.grammar.specs.Limits.{lastKind}
+use Rattle.limits.specs.Limits.{lastKind}
 use Rattle.grammar.proofs.grammar.kind.Statement.{statement}
 use Rattle.grammar.proofs.grammar.kind.Tie as tie
 

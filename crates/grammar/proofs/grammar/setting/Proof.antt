@@ -2,7 +2,7 @@ use mathlib.Core.Path.{sym, _∙_}
 use borrow.Author.Needs.{needs}
 use borrow.Author.Tests.{le-leb, lt-leb}
 use Rattle.masks.specs.Pick.{pick-true, pick-false}
-use Rattle.grammar.specs.Limits.{largestSetting}
+use Rattle.limits.specs.Limits.{largestSetting}
 use Rattle.grammar.proofs.grammar.setting.Statement.{statement}
 use Rattle.grammar.proofs.grammar.setting.Tie as tie
 

@@ -1,0 +1,51 @@
+-- The limits of 01, each named once. Assumes nothing.
+use Prim.Native.Nat.{ℕ}
+
+-- fields n, 1 to 24
+abbrev pub mostFields : ℕ
+mostFields = 24
+
+-- the count of a field's settings, 1 to 24
+abbrev pub mostSettings : ℕ
+mostSettings = 24
+
+-- a setting, and the number c of a rule, in micrometres, 0 to 65,535
+abbrev pub largestSetting : ℕ
+largestSetting = 65535
+
+-- the reach, 1 to 24; at 24 the neighbourhood of a field is every field and every rule
+abbrev pub wholeReach : ℕ
+wholeReach = 24
+
+-- rules e, 0 to 276
+abbrev pub mostRules : ℕ
+mostRules = 276
+
+-- a rule's kind, 0 to 5
+abbrev pub lastKind : ℕ
+lastKind = 5
+
+-- the bytes of a sheet, and its numbers
+abbrev pub mostBytes : ℕ
+mostBytes = 29080
+
+abbrev pub mostNumbers : ℕ
+mostNumbers = 8055
+
+-- the events of a session
+abbrev pub mostEvents : ℕ
+mostEvents = 64
+
+-- the least words of the offers list and of the two work spaces
+abbrev pub offersWords : ℕ
+offersWords = 24
+
+abbrev pub rowsWords : ℕ
+rowsWords = 13248
+
+abbrev pub memoryWords : ℕ
+memoryWords = 13824
+
+-- the words of one of the two tables that the first work space holds
+abbrev pub tableWords : ℕ
+tableWords = 6624

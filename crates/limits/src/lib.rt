@@ -1,0 +1,42 @@
+// The limits of 01 and the numbers of its refusals, each named once. `specs/` has the same names.
+pub mod refusals; // refusals.rt: the numbers of the refusals
+
+// The most fields of a sheet, and the length of an array with a word for each of them.
+pub const MOST_FIELDS: u32 = 24;
+
+pub const FIELDS: usize = MOST_FIELDS as usize;
+
+// The most settings of a field, and the length of an array with a word for each of them.
+pub const MOST_SETTINGS: u32 = 24;
+
+pub const SETTINGS: usize = MOST_SETTINGS as usize;
+
+// The largest setting, and the largest number c of a rule, in micrometres.
+pub const LARGEST_SETTING: u32 = 65535;
+
+// The largest reach, at which the neighbourhood of a field is every field.
+pub const WHOLE_REACH: u32 = 24;
+
+pub const MOST_RULES: u32 = 276;
+
+pub const LAST_KIND: u32 = 5;
+
+// The most bytes and the most numbers of a sheet.
+pub const MOST_BYTES: usize = 29080;
+
+pub const MOST_NUMBERS: usize = 8055;
+
+// The most events of a session, and the length of the array that holds them.
+pub const MOST_EVENTS: u32 = 64;
+
+pub const EVENTS: usize = MOST_EVENTS as usize;
+
+// The least words of the offers list and of the two work spaces.
+pub const OFFERS_WORDS: usize = 24;
+
+pub const ROWS_WORDS: usize = 13248;
+
+pub const MEMORY_WORDS: usize = 13824;
+
+// The words of one of the two tables that the first work space holds.
+pub const TABLE_WORDS: usize = 6624;
