@@ -13,6 +13,8 @@ pub mod Round
 -- what holds of them
 pub mod Places
 pub mod Facts
+pub mod Lists
+pub mod Outline
 pub mod Order
 pub mod Theorems
 pub mod Reads

@@ -3,10 +3,11 @@
 use mathlib.Core.Path.{_≡_, refl}
 use mathlib.Core.List.{List, [], _∷_}
 use Prim.Native.Nat.{ℕ, zero, suc}
+use Rattle.limits.specs.Limits.{offersWords, rowsWords, memoryWords}
 use Rattle.masks.specs.Tests.{allBelow, someBelow}
 use Rattle.masks.specs.Bits.{bit}
 use Rattle.masks.specs.Masks.{maskOf, keepIn, keepBits, someIn, someBit, countIn, countBits}
-use Rattle.masks.specs.Sets.{only, count, same}
+use Rattle.masks.specs.Sets.{has, only, count, same, pad}
 use Rattle.masks.specs.Settings.{cut, empty, someEmpty}
 use Rattle.masks.specs.Pick.{pick}
 use Rattle.consistency.specs.Largest.{sweep, sweeps, largest}
@@ -17,29 +18,42 @@ use Rattle.consistency.specs.Offers.{noneEmpty, passesOver, passes, offers, wip
 use Rattle.groups.specs.Groups.{groups, numberAt}
 use Rattle.grammar.specs.Grammar.{step as sheetStep}
 use Rattle.sheet.specs.Judge.{judge, numbers, items}
+use Rattle.accepted.specs.Lists.{tabulate}
 use Rattle.accepted.specs.Parts.{fieldStart, ruleStart}
+use Rattle.accepted.specs.Outline.{outlineOf}
 use Rattle.accepted.specs.Cases.{D}
 use Rattle.network.specs.SheetProblem.{runs, pairs, sheetProblem}
+use Rattle.ledger.specs.declared.Event.{Event}
 use Rattle.ledger.specs.declared.Call.{Call}
-use Rattle.ledger.specs.declared.Call.the-variants.{Open, Show, Choose, Strike, WithdrawChoice, Back}
-use Rattle.ledger.specs.Lists.{tabulate, occurrences}
-use Rattle.ledger.specs.Ledger.{choice, strike, Event, added, withdrawn, unknown, Ledger, same as sameDecision, inForce, without, empty as noLedger, reversed, step, starts, startSet, offersOf, wiped, Given, tooShort, onSheet, allOnSheet, reversible, illFormed, malformed, unknownArgument, isOrder, first, judged, causes, number}
+use Rattle.ledger.specs.declared.Call.the-variants.{Open, Show, Back}
+use Rattle.ledger.specs.Occurrences.{occurrences}
+use Rattle.ledger.specs.Ledger.{choice, strike, CHOOSE, STRIKE, WITHDRAW-CHOICE, WITHDRAW-STRIKE, changeBy, decides, Ledger, sameDecision, inForce, without}
+use Rattle.ledger.specs.Ledger.{opened, backed, step, otherChosen, starts, startSet, offersOf, wiped, Given, spaceShort, onSheet, allOnSheet, reversible, malformed}
+use Rattle.ledger.specs.Ledger.{noEngine, isOrder, first, judged, causes, number}
 
 -- sheet D with an engine, an order, and spaces just long enough
 abbrev givenD : ℕ → List ℕ → Given
-givenD engine order = record { sheet = D; engine = engine; order = order; offers = 24; rows = 13248; memory = 13824 }
+givenD engine order = record { sheet = D; engine = engine; order = order; offers = offersWords; rows = rowsWords; memory = memoryWords }
 
 abbrev rising : List ℕ
 rising = 0 ∷ 1 ∷ []
 
+-- a sheet of no bytes, and an offers list of a length
+abbrev noSheet : ℕ → Given
+noSheet words = record { sheet = []; engine = 1; order = rising; offers = words; rows = rowsWords; memory = memoryWords }
+
 -- a sheet of one field at reach 1
 abbrev narrow : ℕ → List ℕ → Given
-narrow engine order = record { sheet = 1 ∷ 1 ∷ 5 ∷ 1 ∷ 0 ∷ []; engine = engine; order = order; offers = 24; rows = 13248; memory = 13824 }
+narrow engine order = record { sheet = 1 ∷ 1 ∷ 5 ∷ 1 ∷ 0 ∷ []; engine = engine; order = order; offers = offersWords; rows = rowsWords; memory = memoryWords }
+
+-- an event of field 0, position 0
+abbrev happened : ℕ → Event
+happened kind = record { kind = kind; field = 0; position = 0 }
 
 -- a strike added and withdrawn again and again: 2n events
 pub pastOf : ℕ → List Event
 pastOf zero = []
-pastOf (suc n) = withdrawn (strike 0 0) ∷ added (strike 0 0) ∷ pastOf n
+pastOf (suc n) = happened WITHDRAW-STRIKE ∷ happened STRIKE ∷ pastOf n
 
 -- no decision, and 64 events
 abbrev full : Ledger
@@ -47,31 +61,37 @@ full = record { decisions = []; events = pastOf 32 }
 
 -- a strike in force, and 64 events
 abbrev struck : Ledger
-struck = record { decisions = strike 0 0 ∷ []; events = added (strike 0 0) ∷ withdrawn (strike 0 0) ∷ added (strike 0 0) ∷ pastOf 30 }
+struck = record { decisions = strike 0 0 ∷ []; events = happened STRIKE ∷ happened WITHDRAW-STRIKE ∷ happened STRIKE ∷ pastOf 30 }
 
--- a decision that is not on the sheet; an addition that is not in force; an event of no kind
+-- a decision that is not on the sheet; an addition that is not in force; events of no kind
 abbrev off : Ledger
 off = record { decisions = choice 2 0 ∷ []; events = [] }
 
 abbrev unheld : Ledger
-unheld = record { decisions = []; events = added (choice 0 0) ∷ [] }
+unheld = record { decisions = []; events = happened CHOOSE ∷ [] }
 
-abbrev strange : Ledger
-strange = record { decisions = []; events = unknown ∷ [] }
+abbrev strange : ℕ → Ledger
+strange kind = record { decisions = []; events = happened kind ∷ [] }
 
 pub order-of-causes :
     -- 6 before 1, and 1 before 15
-    (number (record { sheet = []; engine = 1; order = rising; offers = 23; rows = 13248; memory = 13824 }) Show off ≡ 6)
-    × (number (record { sheet = []; engine = 1; order = rising; offers = 24; rows = 13248; memory = 13824 }) Show off ≡ 1)
+    (number (noSheet 23) Show off ≡ 6) × (number (noSheet 24) Show off ≡ 1)
     -- 15 before 7; open skips it
-    × (number (givenD 0 rising) Show off ≡ 15) × (number (givenD 0 rising) Show unheld ≡ 15) × (number (givenD 0 rising) Back strange ≡ 15) × (number (givenD 0 rising) Open off ≡ 7)
-    -- 7 before 8 and 9, 8 before 9
-    × (number (narrow 2 []) (Choose 1 0) noLedger ≡ 7) × (number (narrow 2 []) (Choose 0 0) noLedger ≡ 8) × (number (narrow 3 []) (Choose 0 0) noLedger ≡ 9)
+    × (number (givenD 0 rising) Show off ≡ 15) × (number (givenD 0 rising) Show unheld ≡ 15) × (number (givenD 0 rising) Back (strange 0) ≡ 15)
+    × (number (givenD 0 rising) Back (strange 5) ≡ 15) × (number (givenD 0 rising) Open off ≡ 7)
+    -- 7, for the engine and for the decision, before 8 and 9, 8 before 9
+    × (number (narrow 0 []) Show opened ≡ 7) × (number (narrow 2 []) (decides CHOOSE 1 0) opened ≡ 7) × (number (narrow 2 []) (decides CHOOSE 0 1) opened ≡ 7)
+    × (number (narrow 2 []) (decides CHOOSE 0 0) opened ≡ 8) × (number (narrow 3 []) (decides CHOOSE 0 0) opened ≡ 9)
+    -- a kind that is none of the four
+    × (number (narrow 2 []) (decides 0 0 0) opened ≡ 7) × (number (narrow 2 []) (decides 5 0 0) opened ≡ 7)
     -- 9 before 10, 11 and 13
-    × (number (givenD 1 (0 ∷ 0 ∷ [])) (Strike 0 0) struck ≡ 9) × (number (givenD 1 (0 ∷ [])) (WithdrawChoice 0 0) noLedger ≡ 9) × (number (givenD 1 (1 ∷ 2 ∷ [])) Back noLedger ≡ 9)
+    × (number (givenD 1 (0 ∷ 0 ∷ [])) (decides STRIKE 0 0) struck ≡ 9) × (number (givenD 1 (0 ∷ [])) (decides WITHDRAW-CHOICE 0 0) opened ≡ 9)
+    × (number (givenD 1 (1 ∷ 2 ∷ [])) Back opened ≡ 9)
     -- 10 and 11 before 12, and 13
-    × (number (givenD 1 rising) (Strike 0 0) struck ≡ 10) × (number (givenD 1 rising) (WithdrawChoice 0 0) full ≡ 11) × (number (givenD 1 rising) Back noLedger ≡ 13)
+    × (number (givenD 1 rising) (decides STRIKE 0 0) struck ≡ 10) × (number (givenD 1 rising) (decides WITHDRAW-CHOICE 0 0) full ≡ 11)
+    × (number (givenD 1 rising) Back opened ≡ 13)
     -- 12 before 14; back is not refused by 12
-    × (number (givenD 1 rising) (Choose 0 0) full ≡ 12) × (number (givenD 1 rising) (Choose 0 0) noLedger ≡ 14) × (number (givenD 1 rising) Back full ≡ 0)
-unfolding pastOf wipedOut offers passes passesOver noneEmpty neighbourhood fieldsWithin widen allFields closing supported supportedBy partner largest sweeps sweep someEmpty empty cut same count only countBits countIn someBit someIn keepBits keepIn maskOf bit someBelow allBelow tabulate occurrences number first causes judged malformed illFormed unknownArgument isOrder tooShort reversible allOnSheet onSheet inForce sameDecision without reversed step starts startSet offersOf wiped judge numbers items numberAt groups pick sheetStep fieldStart ruleStart sheetProblem runs pairs
-order-of-causes = (refl, refl, refl, refl, refl, refl, refl, refl, refl, refl, refl, refl, refl, refl, refl, refl, refl, refl)
+    × (number (givenD 1 rising) (decides CHOOSE 0 0) full ≡ 12) × (number (givenD 1 rising) (decides CHOOSE 0 0) opened ≡ 14)
+    × (number (givenD 1 rising) Back full ≡ 0)
+unfolding pastOf wipedOut offers passes passesOver noneEmpty neighbourhood fieldsWithin widen allFields closing supported supportedBy partner largest sweeps sweep someEmpty empty cut same count only countBits countIn someBit someIn keepBits keepIn maskOf bit has pad someBelow allBelow tabulate occurrences number first causes judged malformed noEngine isOrder spaceShort reversible allOnSheet onSheet inForce sameDecision without changeBy backed step otherChosen starts startSet offersOf wiped outlineOf judge numbers items numberAt groups pick sheetStep fieldStart ruleStart sheetProblem runs pairs
+order-of-causes = (refl, refl, refl, refl, refl, refl, refl, refl, refl, refl, refl, refl, refl, refl, refl, refl, refl, refl, refl, refl, refl, refl, refl)

@@ -1,164 +1,23 @@
--- The causes one after the other, and what holds where none applies. Assumes nothing.
-use mathlib.Core.Path.{_≡_, refl, sym, _∙_}
-use mathlib.Core.Logic.{⊎-elim}
+-- The causes stage by stage: which stage decides a number, and what holds where no cause applies. Assumes nothing.
+use mathlib.Core.Path.{_≡_, refl, sym, ap, _∙_}
 use mathlib.Core.Bool.{Bool, true, false, not, _&&_, _||_}
 use mathlib.Core.List.{List, [], _∷_, _++_}
 use Prim.Native.Nat.{ℕ, _≤_}
 use native.Mathlib.Omega.{arith}
 use lib.Dec.{eqb, ltb}
 use lib.ListN.{length}
-use borrow.Author.Tests.{eqb-true, eqb-false, ltb-false}
-use Rattle.masks.specs.Tests.{never, eq-cases}
-use Rattle.masks.specs.Pick.{pick, pick-true, pick-false}
+use borrow.Author.Tests.{eqb-true, eqb-false, eq-eqb, ne-eqb, ltb-false}
+use Rattle.limits.specs.Limits.{mostEvents}
+use Rattle.limits.specs.Refusals.{TOO-SHORT, MALFORMED}
+use Rattle.masks.specs.Tests.{never}
 use Rattle.sheet.specs.Judge.{refusal, numbers, ofBytes}
-use Rattle.accepted.specs.Parts.{fieldsOf, reachOf}
+use Rattle.accepted.specs.declared.outline.Outline.{Outline}
+use Rattle.accepted.specs.Outline.{outlineOf}
 use Rattle.ledger.specs.declared.Call.{Call}
-use Rattle.ledger.specs.Ledger.{Ledger, Given, changeOf, step, wiped, tooShort, allOnSheet, reversible, illFormed, malformed, unknownArgument, isOrder, addedAgain, withdrawnUnheld, nothingPast, noRoom, Cause, because, first, judged, causes, number}
-
-first-here : (t : Bool) (k : ℕ) (cs : List Cause) → t ≡ true → k ≡ first (because t k ∷ cs)
-unfolding first
-first-here t k cs e = sym (pick-true t k (first cs) e)
-
-first-next : (t : Bool) (k : ℕ) (cs : List Cause) {r : ℕ} → t ≡ false → r ≡ first cs → r ≡ first (because t k ∷ cs)
-unfolding first
-first-next t k cs e q = q ∙ sym (pick-false t k (first cs) e)
-
--- no cause, where the number is 0
-first-none : (t : Bool) (k : ℕ) (cs : List Cause) → (k ≡ 0 → ⊥) → first (because t k ∷ cs) ≡ 0 → (t ≡ false) × (first cs ≡ 0)
-unfolding first
-first-none t k cs n e = go t refl e
-  where
-    go : (b : Bool) → t ≡ b → pick b k (first cs) ≡ 0 → (t ≡ false) × (first cs ≡ 0)
-    go true q z = unfold pick in absurd (n z)
-    go false q z = unfold pick in (q, z)
-
--- more causes after them
-first-more : (cs ds : List Cause) → (first cs ≡ 0 → ⊥) → first cs ≡ first (cs ++ ds)
-unfolding first
-first-more [] ds n = absurd (n refl)
-first-more (c ∷ cs) ds n = go (c .applies) n (first-more cs ds)
-  where
-    go : (b : Bool) → (pick b (c .number) (first cs) ≡ 0 → ⊥) → ((first cs ≡ 0 → ⊥) → first cs ≡ first (cs ++ ds))
-        → pick b (c .number) (first cs) ≡ pick b (c .number) (first (cs ++ ds))
-    go true n ih = unfold pick in refl
-    go false n ih = unfold pick in ih n
-
-first-end : 0 ≡ first []
-unfolding first
-first-end = refl
-
-module _ (xs : List ℕ) (c : Call) (engine : ℕ) (order : List ℕ) (l : Ledger) where
-  abbrev early : ℕ
-  early = first (judged xs c engine order l)
-
-  pub judged-15 : malformed xs c l ≡ true → 15 ≡ early
-  unfolding judged
-  judged-15 e = first-here _ _ _ e
-
-  module _ (a : malformed xs c l ≡ false) where
-    pub judged-7 : unknownArgument xs engine (changeOf c) ≡ true → 7 ≡ early
-    unfolding judged
-    judged-7 e = first-next _ _ _ a (first-here _ _ _ e)
-
-    module _ (b : unknownArgument xs engine (changeOf c) ≡ false) where
-      pub judged-8 : (eqb engine 2 && ltb (reachOf xs) 24) ≡ true → 8 ≡ early
-      unfolding judged
-      judged-8 e = first-next _ _ _ a (first-next _ _ _ b (first-here _ _ _ e))
-
-      module _ (d : (eqb engine 2 && ltb (reachOf xs) 24) ≡ false) where
-        pub judged-9 : not (isOrder (fieldsOf xs) order) ≡ true → 9 ≡ early
-        unfolding judged
-        judged-9 e = first-next _ _ _ a (first-next _ _ _ b (first-next _ _ _ d (first-here _ _ _ e)))
-
-        module _ (o : not (isOrder (fieldsOf xs) order) ≡ false) where
-          pub judged-10 : addedAgain (changeOf c) (l .decisions) ≡ true → 10 ≡ early
-          unfolding judged
-          judged-10 e = first-next _ _ _ a (first-next _ _ _ b (first-next _ _ _ d (first-next _ _ _ o (first-here _ _ _ e))))
-
-          module _ (p : addedAgain (changeOf c) (l .decisions) ≡ false) where
-            pub judged-11 : withdrawnUnheld (changeOf c) (l .decisions) ≡ true → 11 ≡ early
-            unfolding judged
-            judged-11 e = first-next _ _ _ a (first-next _ _ _ b (first-next _ _ _ d (first-next _ _ _ o (first-next _ _ _ p (first-here _ _ _ e)))))
-
-            module _ (q : withdrawnUnheld (changeOf c) (l .decisions) ≡ false) where
-              pub judged-13 : nothingPast c (l .events) ≡ true → 13 ≡ early
-              unfolding judged
-              judged-13 e = first-next _ _ _ a (first-next _ _ _ b (first-next _ _ _ d (first-next _ _ _ o (first-next _ _ _ p (first-next _ _ _ q (first-here _ _ _ e))))))
-
-              module _ (r : nothingPast c (l .events) ≡ false) where
-                pub judged-12 : noRoom (changeOf c) (l .events) ≡ true → 12 ≡ early
-                unfolding judged
-                judged-12 e = first-next _ _ _ a (first-next _ _ _ b (first-next _ _ _ d (first-next _ _ _ o (first-next _ _ _ p (first-next _ _ _ q (first-next _ _ _ r (first-here _ _ _ e)))))))
-
-                pub judged-0 : noRoom (changeOf c) (l .events) ≡ false → 0 ≡ early
-                unfolding judged
-                judged-0 e = first-next _ _ _ a (first-next _ _ _ b (first-next _ _ _ d (first-next _ _ _ o (first-next _ _ _ p (first-next _ _ _ q (first-next _ _ _ r (first-next _ _ _ e first-end)))))))
-
-  -- ---- where none of them applies
-
-  pub record Clear : Type 0 where
-    pub formed : malformed xs c l ≡ false
-    pub known : unknownArgument xs engine (changeOf c) ≡ false
-    pub wide : (eqb engine 2 && ltb (reachOf xs) 24) ≡ false
-    pub ordered : not (isOrder (fieldsOf xs) order) ≡ false
-    pub fresh : addedAgain (changeOf c) (l .decisions) ≡ false
-    pub held : withdrawnUnheld (changeOf c) (l .decisions) ≡ false
-    pub some : nothingPast c (l .events) ≡ false
-    pub room : noRoom (changeOf c) (l .events) ≡ false
-
-  pub clear : early ≡ 0 → Clear
-  unfolding judged
-  clear e =
-      let a = first-none _ 15 _ (λ z. omega arith) e in
-      let b = first-none _ 7 _ (λ z. omega arith) (a .1) in
-      let d = first-none _ 8 _ (λ z. omega arith) (b .1) in
-      let o = first-none _ 9 _ (λ z. omega arith) (d .1) in
-      let p = first-none _ 10 _ (λ z. omega arith) (o .1) in
-      let q = first-none _ 11 _ (λ z. omega arith) (p .1) in
-      let r = first-none _ 13 _ (λ z. omega arith) (q .1) in
-      let s = first-none _ 12 _ (λ z. omega arith) (r .1) in
-      record { formed = a .0; known = b .0; wide = d .0; ordered = o .0; fresh = p .0; held = q .0; some = r .0; room = s .0 }
-
-  -- ---- and 14 after them
-
-  pub causes-early : (early ≡ 0 → ⊥) → early ≡ first (causes xs c engine order l)
-  unfolding causes
-  causes-early n = first-more (judged xs c engine order l) _ n
-
-  causes-late : Clear → (k : ℕ) → k ≡ first (because (wiped xs (step c l .decisions)) 14 ∷ []) → k ≡ first (causes xs c engine order l)
-  unfolding causes judged
-  causes-late v k e = first-next _ _ _ (v .formed) (first-next _ _ _ (v .known) (first-next _ _ _ (v .wide) (first-next _ _ _ (v .ordered)
-      (first-next _ _ _ (v .fresh) (first-next _ _ _ (v .held) (first-next _ _ _ (v .some) (first-next _ _ _ (v .room) e)))))))
-
-  pub causes-14 : Clear → wiped xs (step c l .decisions) ≡ true → 14 ≡ first (causes xs c engine order l)
-  causes-14 v e = causes-late v 14 (first-here _ _ _ e)
-
-  pub causes-0 : Clear → wiped xs (step c l .decisions) ≡ false → 0 ≡ first (causes xs c engine order l)
-  causes-0 v e = causes-late v 0 (first-next _ _ _ e first-end)
-
--- ---- where the number is 0 no cause applies
-
-module _ (g : Given) (c : Call) (l : Ledger) (e : number g c l ≡ 0) where
-  abbrev xs : List ℕ
-  xs = numbers (ofBytes (g .sheet))
-
-  judged-so : (a b : Bool) (r k : ℕ) → eqb r 0 ≡ b → pick a 6 (pick b k r) ≡ 0 → (r ≡ 0) × (k ≡ 0)
-  judged-so true b r k q h = absurd (let z : _≡_ {A = ℕ} 6 0 = unfold pick in h in omega arith)
-  judged-so false true r k q h = (eqb-true r 0 q, unfold pick in h)
-  judged-so false false r k q h = absurd (eqb-false r 0 q (unfold pick in h))
-
-  parts : (refusal (ofBytes (g .sheet)) ≡ 0) × (first (causes xs c (g .engine) (g .order) l) ≡ 0)
-  unfolding number
-  parts = judged-so (tooShort g) (eqb (refusal (ofBytes (g .sheet))) 0) (refusal (ofBytes (g .sheet))) (first (causes xs c (g .engine) (g .order) l)) refl e
-
-  pub sheet-accepted : refusal (ofBytes (g .sheet)) ≡ 0
-  sheet-accepted = parts .0
-
-  pub none-applies : Clear xs c (g .engine) (g .order) l
-  none-applies = clear xs c (g .engine) (g .order) l (⊎-elim (λ q. q) (λ n. absurd (n (causes-early xs c (g .engine) (g .order) l n ∙ parts .1)))
-      (eq-cases (first (judged xs c (g .engine) (g .order) l)) 0))
-
--- ---- a ledger that is not malformed
+use Rattle.ledger.specs.declared.Call.the-variants.{Open, Show, Decide, Back, CoilOn}
+use Rattle.ledger.specs.Ledger.{Ledger, Given, Cause, because, first, step, wiped, spaceShort, spaceCauses, sheetCauses, allOnSheet, reversible, malformed}
+use Rattle.ledger.specs.Ledger.{sessionCauses, engineCauses, placeCauses, orderCauses, stepCauses, offersCauses, judged, causes, number}
+use Rattle.ledger.specs.Causes.{None, Avoids, Numbered, avoids-++, first-end, first-applies, first-next, first-none, first-here, first-there, first-both}
 
 pub or-left : (a b : Bool) → (a || b) ≡ false → a ≡ false
 or-left true b e = e
@@ -172,10 +31,190 @@ pub not-back : (b : Bool) → not b ≡ false → b ≡ true
 not-back true e = refl
 not-back false e = sym e
 
--- a session that is not malformed
-pub well-formed : (xs : List ℕ) (l : Ledger) → illFormed xs l ≡ false → (allOnSheet xs (l .decisions) ≡ true) × (length (l .events) ≤ 64) × (reversible xs (l .events) (l .decisions) ≡ true)
-unfolding illFormed
-well-formed xs l e =
+-- ---- the stages that read a call: none of their causes has a number k, where k is none of theirs
+
+pub session-avoids : (k : ℕ) (o : Outline) (c : Call) (l : Ledger) → (malformed o l ≡ true → MALFORMED ≡ k → ⊥) → Avoids k (sessionCauses o c l)
+session-avoids k o Open l n = tt
+session-avoids k o Show l n = (n, tt)
+session-avoids k o (Decide e) l n = (n, tt)
+session-avoids k o Back l n = (n, tt)
+session-avoids k o CoilOn l n = (n, tt)
+
+pub place-avoids : (k : ℕ) (o : Outline) (c : Call) → (_≡_ {A = ℕ} 7 k → ⊥) → Avoids k (placeCauses o c)
+place-avoids k o Open n = tt
+place-avoids k o Show n = tt
+place-avoids k o (Decide e) n = (λ _. n, tt)
+place-avoids k o Back n = tt
+place-avoids k o CoilOn n = tt
+
+-- 10 to 13
+pub record NotOfStep (k : ℕ) : Type 0 where
+  pub not-10 : _≡_ {A = ℕ} 10 k → ⊥
+  pub not-11 : _≡_ {A = ℕ} 11 k → ⊥
+  pub not-12 : _≡_ {A = ℕ} 12 k → ⊥
+  pub not-13 : _≡_ {A = ℕ} 13 k → ⊥
+
+pub step-avoids : (k : ℕ) (c : Call) (l : Ledger) → NotOfStep k → Avoids k (stepCauses c l)
+step-avoids k Open l n = tt
+step-avoids k Show l n = tt
+step-avoids k (Decide e) l n = (λ _. n .not-10, (λ _. n .not-11, (λ _. n .not-12, tt)))
+step-avoids k Back l n = (λ _. n .not-13, tt)
+step-avoids k CoilOn l n = tt
+
+-- ---- 15 and 7 to 13
+
+module _ (o : Outline) (c : Call) (engine : ℕ) (order : List ℕ) (l : Ledger) where
+  abbrev found : ℕ
+  found = first (judged o c engine order l)
+
+  -- the stages after the place, and after the engine
+  abbrev late : List Cause
+  late = orderCauses o engine order ++ stepCauses c l
+
+  abbrev placed : List Cause
+  placed = placeCauses o c ++ late
+
+  pub session-numbered : Numbered (sessionCauses o c l)
+  session-numbered = session-avoids 0 o c l (λ _ z. omega arith)
+
+  engine-numbered : Numbered (engineCauses engine)
+  engine-numbered = (λ _ z. omega arith, tt)
+
+  place-numbered : Numbered (placeCauses o c)
+  place-numbered = place-avoids 0 o c (λ z. omega arith)
+
+  order-numbered : Numbered (orderCauses o engine order)
+  order-numbered = (λ _ z. omega arith, (λ _ z. omega arith, tt))
+
+  step-numbered : Numbered (stepCauses c l)
+  step-numbered = step-avoids 0 c l (record { not-10 = λ z. omega arith; not-11 = λ z. omega arith; not-12 = λ z. omega arith; not-13 = λ z. omega arith })
+
+  pub judged-numbered : Numbered (judged o c engine order l)
+  unfolding judged
+  judged-numbered =
+      avoids-++ 0 (sessionCauses o c l) (engineCauses engine ++ placed) session-numbered (avoids-++ 0 (engineCauses engine) placed engine-numbered
+      (avoids-++ 0 (placeCauses o c) late place-numbered (avoids-++ 0 (orderCauses o engine order) (stepCauses c l) order-numbered step-numbered)))
+
+  -- Each stage decides where those before it have no cause that applies.
+  pub judged-session : (k : ℕ) → (k ≡ 0 → ⊥) → k ≡ first (sessionCauses o c l) → k ≡ found
+  unfolding judged
+  judged-session k n e = first-here (sessionCauses o c l) _ session-numbered k n e
+
+  module _ (s : first (sessionCauses o c l) ≡ 0) where
+    after-session : {k : ℕ} → k ≡ first (engineCauses engine ++ placed) → k ≡ found
+    unfolding judged
+    after-session e = first-there (sessionCauses o c l) _ session-numbered s e
+
+    pub judged-engine : (k : ℕ) → (k ≡ 0 → ⊥) → k ≡ first (engineCauses engine) → k ≡ found
+    judged-engine k n e = after-session (first-here (engineCauses engine) _ engine-numbered k n e)
+
+    module _ (g : first (engineCauses engine) ≡ 0) where
+      after-engine : {k : ℕ} → k ≡ first placed → k ≡ found
+      after-engine e = after-session (first-there (engineCauses engine) _ engine-numbered g e)
+
+      pub judged-place : (k : ℕ) → (k ≡ 0 → ⊥) → k ≡ first (placeCauses o c) → k ≡ found
+      judged-place k n e = after-engine (first-here (placeCauses o c) _ place-numbered k n e)
+
+      module _ (p : first (placeCauses o c) ≡ 0) where
+        after-place : {k : ℕ} → k ≡ first late → k ≡ found
+        after-place e = after-engine (first-there (placeCauses o c) _ place-numbered p e)
+
+        pub judged-order : (k : ℕ) → (k ≡ 0 → ⊥) → k ≡ first (orderCauses o engine order) → k ≡ found
+        judged-order k n e = after-place (first-here (orderCauses o engine order) _ order-numbered k n e)
+
+        pub judged-step : first (orderCauses o engine order) ≡ 0 → {k : ℕ} → k ≡ first (stepCauses c l) → k ≡ found
+        judged-step r e = after-place (first-there (orderCauses o engine order) _ order-numbered r e)
+
+  -- no cause of any stage applies
+  pub record Clear : Type 0 where
+    pub of-session : None (sessionCauses o c l)
+    pub of-engine : None (engineCauses engine)
+    pub of-place : None (placeCauses o c)
+    pub of-order : None (orderCauses o engine order)
+    pub of-step : None (stepCauses c l)
+
+  pub clear : found ≡ 0 → Clear
+  unfolding judged
+  clear e =
+      let a = first-both (sessionCauses o c l) _ session-numbered e in
+      let b = first-both (engineCauses engine) _ engine-numbered (a .1) in
+      let d = first-both (placeCauses o c) _ place-numbered (b .1) in
+      let f = first-both (orderCauses o engine order) _ order-numbered (d .1) in
+      record {
+        of-session = first-none (sessionCauses o c l) session-numbered (a .0);
+        of-engine = first-none (engineCauses engine) engine-numbered (b .0);
+        of-place = first-none (placeCauses o c) place-numbered (d .0);
+        of-order = first-none (orderCauses o engine order) order-numbered (f .0);
+        of-step = first-none (stepCauses c l) step-numbered (f .1);
+      }
+
+-- ---- the number of a call
+
+module _ (g : Given) (c : Call) (l : Ledger) where
+  abbrev xs : List ℕ
+  xs = numbers (ofBytes (g .sheet))
+
+  abbrev early : List Cause
+  early = judged (outlineOf xs) c (g .engine) (g .order) l
+
+  pub space-numbered : Numbered (spaceCauses g)
+  space-numbered = (λ _ z. omega arith, tt)
+
+  pub sheet-numbered : Numbered (sheetCauses (g .sheet))
+  sheet-numbered = (λ e z. never e (ap not (eq-eqb (refusal (ofBytes (g .sheet))) 0 z)), tt)
+
+  pub early-numbered : Numbered early
+  early-numbered = judged-numbered (outlineOf xs) c (g .engine) (g .order) l
+
+  -- 6
+  pub number-short : spaceShort g ≡ true → TOO-SHORT ≡ number g c l
+  unfolding number causes
+  number-short e = first-here (spaceCauses g) _ space-numbered TOO-SHORT (λ z. omega arith) (first-applies _ _ _ e)
+
+  module _ (s : spaceShort g ≡ false) where
+    after-space : {k : ℕ} → k ≡ first (sheetCauses (g .sheet) ++ (early ++ offersCauses xs (step c l))) → k ≡ number g c l
+    unfolding number causes
+    after-space e = first-there (spaceCauses g) _ space-numbered (sym (first-next _ _ _ s first-end)) e
+
+    -- 1 to 5
+    pub number-sheet : (k : ℕ) → (k ≡ 0 → ⊥) → k ≡ refusal (ofBytes (g .sheet)) → k ≡ number g c l
+    number-sheet k n e = after-space (first-here (sheetCauses (g .sheet)) _ sheet-numbered k n
+        (e ∙ first-applies _ _ _ (ap not (ne-eqb (refusal (ofBytes (g .sheet))) 0 (λ z. n (e ∙ z))))))
+
+    module _ (r : refusal (ofBytes (g .sheet)) ≡ 0) where
+      after-sheet : {k : ℕ} → k ≡ first (early ++ offersCauses xs (step c l)) → k ≡ number g c l
+      after-sheet e = after-space (first-there (sheetCauses (g .sheet)) _ sheet-numbered
+          (sym (first-next _ _ _ (ap not (eq-eqb (refusal (ofBytes (g .sheet))) 0 r)) first-end)) e)
+
+      -- 15 and 7 to 13
+      pub number-judged : (k : ℕ) → (k ≡ 0 → ⊥) → k ≡ first early → k ≡ number g c l
+      number-judged k n e = after-sheet (first-here early _ early-numbered k n e)
+
+      -- 14, or none
+      pub number-offers : first early ≡ 0 → {k : ℕ} → k ≡ first (offersCauses xs (step c l)) → k ≡ number g c l
+      number-offers z e = after-sheet (first-there early _ early-numbered z e)
+
+  -- where the number is 0 no cause applies
+  module _ (e : number g c l ≡ 0) where
+    after-spaces : first (sheetCauses (g .sheet) ++ (early ++ offersCauses xs (step c l))) ≡ 0
+    unfolding number causes
+    after-spaces = first-both (spaceCauses g) _ space-numbered e .1
+
+    after-sheets : (first (sheetCauses (g .sheet)) ≡ 0) × (first (early ++ offersCauses xs (step c l)) ≡ 0)
+    after-sheets = first-both (sheetCauses (g .sheet)) _ sheet-numbered after-spaces
+
+    pub sheet-accepted : refusal (ofBytes (g .sheet)) ≡ 0
+    sheet-accepted = eqb-true _ 0 (not-back _ (first-none (sheetCauses (g .sheet)) sheet-numbered (after-sheets .0) .0))
+
+    pub none-applies : Clear (outlineOf xs) c (g .engine) (g .order) l
+    none-applies = clear (outlineOf xs) c (g .engine) (g .order) l (first-both early _ early-numbered (after-sheets .1) .0)
+
+-- ---- a ledger that is not malformed
+
+pub well-formed : (o : Outline) (l : Ledger) → malformed o l ≡ false
+    → (allOnSheet o (l .decisions) ≡ true) × (length (l .events) ≤ mostEvents) × (reversible o (l .events) (l .decisions) ≡ true)
+unfolding malformed
+well-formed o l e =
     let a = or-left _ _ e in
-    let b = or-right (not (allOnSheet xs (l .decisions))) _ e in
-    (not-back _ a, ltb-false 64 _ (or-left _ _ b), not-back _ (or-right (ltb 64 (length (l .events))) _ b))
+    let b = or-right (not (allOnSheet o (l .decisions))) _ e in
+    (not-back _ a, ltb-false mostEvents _ (or-left _ _ b), not-back _ (or-right (ltb mostEvents (length (l .events))) _ b))

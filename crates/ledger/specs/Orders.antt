@@ -11,7 +11,7 @@ use lib.ListN.{length, getD, take}
 use borrow.Author.Tests.{eqb-true, eq-eqb, ne-eqb, ltb-true, ltb-false, lt-ltb, le-ltb}
 use Rattle.masks.specs.Tests.{not-so, bool-cases, eq-cases, and-l, and-r, and-by, allBelow, allBelow-at, allBelow-by}
 use Rattle.masks.specs.Masks.{digit}
-use Rattle.ledger.specs.Lists.{occurrences}
+use Rattle.ledger.specs.Occurrences.{occurrences}
 use Rattle.ledger.specs.Ledger.{isOrder}
 
 digit-true : {t : Bool} → t ≡ true → digit t ≡ 1

@@ -2,50 +2,78 @@
 use mathlib.Core.Path.{_≡_, refl, sym, ap, ap₂, _∙_}
 use mathlib.Core.Logic.{⊎-elim}
 use mathlib.Core.Bool.{Bool, true, false, not, _&&_, and-false}
-use mathlib.Core.List.{List, [], _∷_}
+use mathlib.Core.List.{List, [], _∷_, _++_}
 use Prim.Native.Nat.{ℕ, _<_}
+use native.Mathlib.Omega.{arith}
 use lib.Dec.{eqb, ltb}
-use borrow.Author.Tests.{eqb-true, eq-eqb, lt-ltb}
-use Rattle.masks.specs.Tests.{never, not-so, iff-eq, and-r, and-by, or-l, or-r, or-at, someBelow, someBelow-at, someBelow-by, allBelow-at, allBelow-by, ⇒-at, ⇒-by}
+use borrow.Author.Tests.{eqb-true, eq-eqb, ne-eqb, lt-ltb}
+use Rattle.limits.specs.Refusals.{UNKNOWN, TOO-NARROW, NO-ORDER}
+use Rattle.masks.specs.Tests.{never, not-so, iff-eq, eq-cases, and-l, and-r, and-by, or-l, or-r, or-at, someBelow, someBelow-at, someBelow-by}
 use Rattle.masks.specs.Bits.{bit}
-use Rattle.masks.specs.Masks.{maskOf, maskOf-in}
+use Rattle.masks.specs.Masks.{keepBits, bit-keepBits, someBit, someBit-at, someBit-by}
 use Rattle.masks.specs.Sets.{has}
 use Rattle.masks.specs.Pick.{pick}
 use Rattle.consistency.specs.SetUps as setUps
 use Rattle.consistency.specs.Problem.{SetUp}
 use Rattle.sheet.specs.Judge.{refusal, numbers, ofBytes}
+use Rattle.accepted.specs.declared.outline.Outline.{Outline}
+use Rattle.accepted.specs.Lists.{getD-tabulate}
 use Rattle.accepted.specs.Parts.{fieldsOf, countOf, reachOf, rulesOf, firstOf, secondOf, ruleAllows}
+use Rattle.accepted.specs.Outline.{outlineOf, full-has}
 use Rattle.network.specs.SheetProblem.{runs, runs-at, pairs, joins, allowsPair, sheetProblem}
+use Rattle.ledger.specs.declared.Event.{Event}
 use Rattle.ledger.specs.declared.Call.{Call}
-use Rattle.ledger.specs.declared.Call.the-variants.{Open, Show, Choose, Strike, WithdrawChoice, WithdrawStrike, Back, CoilOn}
-use Rattle.ledger.specs.Lists.{getD-tabulate}
-use Rattle.ledger.specs.Ledger.{Decision, choice, strike, Ledger, same, inForce, with, without, neither, changeOf, reversed, step, starts, startSet, offersOf, wiped, Given, tooShort, malformed, unknownArgument, isOrder, addedAgain, withdrawnUnheld, nothingPast, noRoom, Cause, because, first, judged, causes, number}
-use Rattle.ledger.specs.Laws.{same-at, inForce-without, alike-offers, Same}
-use Rattle.ledger.specs.Judging.{Clear, none-applies, not-back}
-use Rattle.ledger.specs.Sound.{and-true, added-back, withdrawn-back}
+use Rattle.ledger.specs.declared.Call.the-variants.{Open, Show, Decide, Back, CoilOn}
+use Rattle.ledger.specs.Ledger.{Decision, choice, strike, changeOf, Ledger, sameDecision, inForce, without, backed, step, settings, otherChosen, starts, startSet, offersOf, wiped, Given}
+use Rattle.ledger.specs.Ledger.{Cause, first, spaceShort, spaceCauses, sheetCauses, sessionCauses, engineCauses, placeCauses, orderCauses, stepCauses, offersCauses}
+use Rattle.ledger.specs.Ledger.{judged, causes, number}
+use Rattle.ledger.specs.Causes.{Numbered, avoids-++, Misses, first-++, first-skip}
+use Rattle.ledger.specs.Laws.{decision-at, inForce-without, SameLedger, alike-offers}
+use Rattle.ledger.specs.Judging.{Clear, none-applies, space-numbered, sheet-numbered, session-numbered, early-numbered}
+use Rattle.ledger.specs.Sound.{and-true, changed-back}
 
 -- ---- the start set, in 01's three cases
 
-module _ (xs : List ℕ) (ds : List Decision) (f : ℕ) where
+not-back : (b : Bool) → not b ≡ true → b ≡ false
+not-back true e = sym e
+not-back false e = refl
+
+module _ (o : Outline) (ds : List Decision) (f : ℕ) where
+  other-at : (v : ℕ) → otherChosen o ds f v ≡ true → (u : ℕ) × (has (o .full) f u ≡ true) × (inForce ds (choice f u) ≡ true) × (eqb u v ≡ false)
+  unfolding otherChosen has
+  other-at v e =
+      let x = someBit-at (settings o f) (λ u. inForce ds (choice f u) && not (eqb u v)) e in
+      (x .0, x .1, and-l _ _ (x .2), not-back _ (and-r (inForce ds (choice f (x .0))) _ (x .2)))
+
+  other-by : (v u : ℕ) → has (o .full) f u ≡ true → inForce ds (choice f u) ≡ true → eqb u v ≡ false → otherChosen o ds f v ≡ true
+  unfolding otherChosen has
+  other-by v u h c n = someBit-by (settings o f) (λ u. inForce ds (choice f u) && not (eqb u v)) u h (and-by _ _ c (ap not n))
+
   -- no choice: all that are not struck
-  pub start-free : ((u : ℕ) → u < countOf xs f → inForce ds (choice f u) ≡ false) → (v : ℕ) → starts xs ds f v ≡ not (inForce ds (strike f v))
+  pub start-free : ((u : ℕ) → has (o .full) f u ≡ true → inForce ds (choice f u) ≡ false) → (v : ℕ) → starts o ds f v ≡ not (inForce ds (strike f v))
   unfolding starts
-  start-free n v = ap (λ (b : Bool). not (inForce ds (strike f v)) && b) (allBelow-by (countOf xs f) _ (λ u h. ⇒-by _ _ (λ e. absurd (never e (n u h))))) ∙ and-true (not (inForce ds (strike f v)))
+  start-free n v = rw (not-so (otherChosen o ds f v) (λ e. let x = other-at v e in never (x .2) (n (x .0) (x .1)))) (and-true (not (inForce ds (strike f v))))
 
   -- one choice: only the chosen one, if it is not struck
-  pub start-one : (w : ℕ) → w < countOf xs f → inForce ds (choice f w) ≡ true → ((u : ℕ) → u < countOf xs f → inForce ds (choice f u) ≡ true → u ≡ w)
-      → (v : ℕ) → starts xs ds f v ≡ (not (inForce ds (strike f v)) && eqb w v)
+  pub start-one : (w : ℕ) → has (o .full) f w ≡ true → inForce ds (choice f w) ≡ true
+      → ((u : ℕ) → has (o .full) f u ≡ true → inForce ds (choice f u) ≡ true → u ≡ w)
+      → (v : ℕ) → starts o ds f v ≡ (not (inForce ds (strike f v)) && eqb w v)
   unfolding starts
-  start-one w h c only v = ap (λ (b : Bool). not (inForce ds (strike f v)) && b) (iff-eq _ _
-      (λ e. ⇒-at _ _ (allBelow-at (countOf xs f) _ e w h) c)
-      (λ e. allBelow-by (countOf xs f) _ (λ u l. ⇒-by _ _ (λ d. eq-eqb u v (only u l d ∙ eqb-true w v e)))))
+  start-one w h c only v = ap (λ (b : Bool). not (inForce ds (strike f v)) && b) (go (eqb w v) refl)
+    where
+      go : (b : Bool) → eqb w v ≡ b → not (otherChosen o ds f v) ≡ b
+      go true e = ap not (not-so (otherChosen o ds f v) (λ s. let x = other-at v s in never (eq-eqb (x .0) v (only (x .0) (x .1) (x .2) ∙ eqb-true w v e)) (x .3)))
+      go false e = ap not (other-by v w h c e)
 
   -- two or more: none
-  pub start-none : (u w : ℕ) → u < countOf xs f → w < countOf xs f → (u ≡ w → ⊥) → inForce ds (choice f u) ≡ true → inForce ds (choice f w) ≡ true → (v : ℕ) → starts xs ds f v ≡ false
+  pub start-none : (u w : ℕ) → has (o .full) f u ≡ true → has (o .full) f w ≡ true → (u ≡ w → ⊥) → inForce ds (choice f u) ≡ true
+      → inForce ds (choice f w) ≡ true → (v : ℕ) → starts o ds f v ≡ false
   unfolding starts
-  start-none u w h l n c d v = not-so _ (λ e.
-      let a = and-r (not (inForce ds (strike f v))) _ e in
-      n (eqb-true u v (⇒-at _ _ (allBelow-at (countOf xs f) _ a u h) c) ∙ sym (eqb-true w v (⇒-at _ _ (allBelow-at (countOf xs f) _ a w l) d))))
+  start-none u w h l n c d v = rw (some (eqb u v) refl) (and-false (not (inForce ds (strike f v))))
+    where
+      some : (b : Bool) → eqb u v ≡ b → otherChosen o ds f v ≡ true
+      some true e = other-by v w l d (ne-eqb w v (λ q. n (eqb-true u v e ∙ sym q)))
+      some false e = other-by v u h c e
 
 -- ---- every setting of a complete set-up that obeys the decisions is offered
 
@@ -57,13 +85,18 @@ pub record Obeys (xs : List ℕ) (ds : List Decision) (a : ℕ → ℕ) : Type 0
   pub chosen : (f u : ℕ) → f < fieldsOf xs → inForce ds (choice f u) ≡ true → u ≡ a f
 
 module _ (xs : List ℕ) (ds : List Decision) (a : ℕ → ℕ) (o : Obeys xs ds a) where
-  starts-so : (f : ℕ) → f < fieldsOf xs → starts xs ds f (a f) ≡ true
+  starts-so : (f : ℕ) → f < fieldsOf xs → starts (outlineOf xs) ds f (a f) ≡ true
   unfolding starts
-  starts-so f h = and-by _ _ (ap not (o .unstruck f h)) (allBelow-by (countOf xs f) _ (λ u l. ⇒-by _ _ (λ c. eq-eqb u (a f) (o .chosen f u h c))))
+  starts-so f h = and-by _ _ (ap not (o .unstruck f h)) (ap not (not-so (otherChosen (outlineOf xs) ds f (a f)) (λ s.
+      let x = other-at (outlineOf xs) ds f (a f) s in never (eq-eqb (x .0) (a f) (o .chosen f (x .0) h (x .2))) (x .3))))
 
-  inside : (f : ℕ) → f < fieldsOf xs → has (startSet xs ds) f (a f) ≡ true
+  inside : (f : ℕ) → f < fieldsOf xs → has (startSet (outlineOf xs) ds) f (a f) ≡ true
   unfolding has startSet
-  inside f h = ap (λ (m : ℕ). bit m (a f)) (getD-tabulate (fieldsOf xs) (λ f. maskOf (countOf xs f) (starts xs ds f)) f h) ∙ maskOf-in (countOf xs f) (starts xs ds f) (a f) (o .on f h) ∙ starts-so f h
+  inside f h =
+      let on : has (outlineOf xs .full) f (a f) ≡ true = full-has xs f (a f) ∙ and-by _ _ (lt-ltb f _ h) (lt-ltb (a f) _ (o .on f h)) in
+      let n : f < outlineOf xs .fields = unfold outlineOf in h in
+      ap (λ (m : ℕ). bit m (a f)) (getD-tabulate (outlineOf xs .fields) (λ f. keepBits (settings (outlineOf xs) f) (starts (outlineOf xs) ds f)) f n)
+      ∙ bit-keepBits (settings (outlineOf xs) f) (starts (outlineOf xs) ds f) (a f) ∙ and-by _ _ on (starts-so f h)
 
   -- where a rule joins two fields, it allows their settings
   both : (f g r : ℕ) → f < fieldsOf xs → g < fieldsOf xs → r < rulesOf xs → runs xs f g r ≡ true → pairs xs f g (a f) (a g) r ≡ true
@@ -77,44 +110,39 @@ module _ (xs : List ℕ) (ds : List Decision) (a : ℕ → ℕ) (o : Obeys xs ds
       (λ q. or-r (runs xs f g (x .0) && pairs xs f g (a f) (a g) (x .0)) _ (and-by _ _ q (both g f (x .0) k h (x .1) q)))
       (or-at (runs xs f g (x .0)) (runs xs g f (x .0)) (x .2)))
 
-  set-up : SetUp (sheetProblem xs) (startSet xs ds) a
+  set-up : SetUp (sheetProblem xs) (startSet (outlineOf xs) ds) a
   set-up = record { inside = λ f h. inside f (field f h); agrees = λ f g h k. unfold sheetProblem in agrees f g (field f h) (field g k) }
     where
       field : (f : ℕ) → f < sheetProblem xs .fields → f < fieldsOf xs
       field f h = unfold sheetProblem in h
 
-  pub set-up-kept : (f : ℕ) → f < fieldsOf xs → has (offersOf xs ds) f (a f) ≡ true
-  set-up-kept f h = unfold offersOf in setUps.set-up-offered (sheetProblem xs) (startSet xs ds) a set-up (reachOf xs) f (unfold sheetProblem in h)
+  pub set-up-kept : (es : List Event) (f : ℕ) → f < fieldsOf xs → has (offersOf xs (record { decisions = ds; events = es })) f (a f) ≡ true
+  set-up-kept es f h = unfold offersOf in setUps.set-up-offered (sheetProblem xs) (startSet (outlineOf xs) ds) a set-up (reachOf xs) f (unfold sheetProblem in h)
 
   -- so it is not refused as wiped out
-  pub set-up-shown : wiped xs ds ≡ false
-  set-up-shown = unfold wiped in setUps.set-up-not-wiped (sheetProblem xs) (startSet xs ds) a set-up (reachOf xs)
+  pub set-up-shown : (es : List Event) → wiped xs (record { decisions = ds; events = es }) ≡ false
+  set-up-shown es = unfold wiped in setUps.set-up-not-wiped (sheetProblem xs) (startSet (outlineOf xs) ds) a set-up (reachOf xs)
 
 -- ---- a withdrawn decision leaves the page as if it had never been made
 
--- `es` are the decisions that would be in force had d never been made: the others of ds, and not d.
-pub withdrawn-leaves : (xs : List ℕ) (d : Decision) (ds es : List Decision) → ((e : Decision) → same d e ≡ false → inForce ds e ≡ inForce es e) → inForce es d ≡ false
-    → offersOf xs (without d ds) ≡ offersOf xs es
-withdrawn-leaves xs d ds es others n = alike-offers (without d ds) es (λ e. inForce-without d ds e ∙ go e (same d e) refl) xs
-  where
-    go : (e : Decision) (b : Bool) → same d e ≡ b → (inForce ds e && not b) ≡ inForce es e
-    go e true q = and-false (inForce ds e) ∙ sym (ap (inForce es) (sym (same-at d e q)) ∙ n)
-    go e false q = and-true (inForce ds e) ∙ others e q
+-- `m` has the decisions that would be in force had d never been made: the others of l, and not d.
+module _ (xs : List ℕ) (d : Decision) (l m : Ledger) (others : (e : Decision) → sameDecision d e ≡ false → inForce (l .decisions) e ≡ inForce (m .decisions) e)
+    (n : inForce (m .decisions) d ≡ false) where
+  pub withdrawn-leaves : (es : List Event) → offersOf xs (record { decisions = without d (l .decisions); events = es }) ≡ offersOf xs m
+  withdrawn-leaves es = alike-offers (record { decisions = without d (l .decisions); events = es }) m xs
+      (λ e. inForce-without d (l .decisions) e ∙ go e (sameDecision d e) refl)
+    where
+      go : (e : Decision) (b : Bool) → sameDecision d e ≡ b → (inForce (l .decisions) e && not b) ≡ inForce (m .decisions) e
+      go e true q = and-false (inForce (l .decisions) e) ∙ sym (ap (inForce (m .decisions)) (sym (decision-at d e q)) ∙ n)
+      go e false q = and-true (inForce (l .decisions) e) ∙ others e q
 
 -- ---- back undoes the latest accepted change exactly
 
-pub back-undoes : (g : Given) (c : Call) (l : Ledger) → number g c l ≡ 0 → (changeOf c ≡ neither → ⊥) → Same (step Back (step c l)) l
-back-undoes g c l e = go c (none-applies g c l e)
-  where
-    go : (c : Call) → Clear (numbers (ofBytes (g .sheet))) c (g .engine) (g .order) l → (changeOf c ≡ neither → ⊥) → Same (step Back (step c l)) l
-    go Open v n = absurd (n refl)
-    go Show v n = absurd (n refl)
-    go (Choose f u) v n = unfold step reversed in (record { held = added-back (choice f u) (l .decisions) (v .fresh); past = refl })
-    go (Strike f u) v n = unfold step reversed in (record { held = added-back (strike f u) (l .decisions) (v .fresh); past = refl })
-    go (WithdrawChoice f u) v n = unfold step reversed in (record { held = withdrawn-back (choice f u) (l .decisions) (not-back _ (v .held)); past = refl })
-    go (WithdrawStrike f u) v n = unfold step reversed in (record { held = withdrawn-back (strike f u) (l .decisions) (not-back _ (v .held)); past = refl })
-    go Back v n = absurd (n refl)
-    go CoilOn v n = absurd (n refl)
+pub back-undoes : (g : Given) (e : Event) (l : Ledger) → number g (Decide e) l ≡ 0 → SameLedger (step Back (step (Decide e) l)) l
+unfolding step backed
+back-undoes g e l z =
+    let v = none-applies g (Decide e) l z in
+    record { held = changed-back (changeOf e) (l .decisions) (v .of-step .0) (v .of-step .1 .0); past = refl }
 
 -- ---- engine and order alter nothing
 
@@ -123,43 +151,80 @@ abbrev pub lending : Given → ℕ → List ℕ → Given
 lending g engine order = record { sheet = g .sheet; engine = engine; order = order; offers = g .offers; rows = g .rows; memory = g .memory }
 
 -- not refused for its engine, decision or order
-pub record Taken (k : ℕ) : Type 0 where
-  pub not-7 : k ≡ 7 → ⊥
-  pub not-8 : k ≡ 8 → ⊥
-  pub not-9 : k ≡ 9 → ⊥
+pub record Admitted (k : ℕ) : Type 0 where
+  pub not-7 : k ≡ UNKNOWN → ⊥
+  pub not-8 : k ≡ TOO-NARROW → ⊥
+  pub not-9 : k ≡ NO-ORDER → ⊥
 
--- the causes after 9, which read neither engine nor order
-abbrev later : List ℕ → Call → Ledger → List Cause
-later xs c l =
-    because (addedAgain (changeOf c) (l .decisions)) 10
-    ∷ because (withdrawnUnheld (changeOf c) (l .decisions)) 11
-    ∷ because (nothingPast c (l .events)) 13
-    ∷ because (noRoom (changeOf c) (l .events)) 12
-    ∷ because (wiped xs (step c l .decisions)) 14
-    ∷ []
+admitted-0 : Admitted 0
+admitted-0 = record { not-7 = λ z. omega arith; not-8 = λ z. omega arith; not-9 = λ z. omega arith }
 
-skipped : (m a b c : Bool) (r : ℕ) → Taken (pick m 15 (pick a 7 (pick b 8 (pick c 9 r)))) → pick m 15 (pick a 7 (pick b 8 (pick c 9 r))) ≡ pick m 15 r
-skipped true a b c r t = unfold pick in refl
-skipped false true b c r t = absurd (t .not-7 (unfold pick in refl))
-skipped false false true c r t = absurd (t .not-8 (unfold pick in refl))
-skipped false false false true r t = absurd (t .not-9 (unfold pick in refl))
-skipped false false false false r t = unfold pick in refl
-
-pub engine-and-order : (g : Given) (engine : ℕ) (order : List ℕ) (c : Call) (l : Ledger) → Taken (number g c l) → Taken (number (lending g engine order) c l)
-    → number g c l ≡ number (lending g engine order) c l
-unfolding number tooShort
-engine-and-order g engine order c l = go (tooShort g) (eqb (refusal (ofBytes (g .sheet))) 0)
+-- where no cause of engine, decision or order decides, those of the session and the step do
+judged-else : (o : Outline) (c : Call) (engine : ℕ) (order : List ℕ) (l : Ledger) → Admitted (first (judged o c engine order l))
+    → first (judged o c engine order l) ≡ pick (eqb (first (sessionCauses o c l)) 0) (first (stepCauses c l)) (first (sessionCauses o c l))
+unfolding judged
+judged-else o c engine order l t = whole ∙ go (eqb (first (sessionCauses o c l)) 0) (rw whole at t)
   where
-    found : (engine : ℕ) (order : List ℕ) → Taken (first (causes (numbers (ofBytes (g .sheet))) c engine order l))
-        → first (causes (numbers (ofBytes (g .sheet))) c engine order l) ≡ pick (malformed (numbers (ofBytes (g .sheet))) c l) 15 (first (later (numbers (ofBytes (g .sheet))) c l))
-    found engine order t = unfold causes judged first in (skipped (malformed (numbers (ofBytes (g .sheet))) c l) (unknownArgument (numbers (ofBytes (g .sheet))) engine (changeOf c))
-        (eqb engine 2 && ltb (reachOf (numbers (ofBytes (g .sheet)))) 24) (not (isOrder (fieldsOf (numbers (ofBytes (g .sheet)))) order)) (first (later (numbers (ofBytes (g .sheet))) c l)) t)
+    rest : List Cause
+    rest = engineCauses engine ++ (placeCauses o c ++ (orderCauses o engine order ++ stepCauses c l))
 
-    go : (a b : Bool)
-        → Taken (pick a 6 (pick b (first (causes (numbers (ofBytes (g .sheet))) c (g .engine) (g .order) l)) (refusal (ofBytes (g .sheet)))))
-        → Taken (pick a 6 (pick b (first (causes (numbers (ofBytes (g .sheet))) c engine order l)) (refusal (ofBytes (g .sheet)))))
-        → pick a 6 (pick b (first (causes (numbers (ofBytes (g .sheet))) c (g .engine) (g .order) l)) (refusal (ofBytes (g .sheet))))
-        ≡ pick a 6 (pick b (first (causes (numbers (ofBytes (g .sheet))) c engine order l)) (refusal (ofBytes (g .sheet))))
-    go true b s t = unfold pick in refl
-    go false true s t = unfold pick in (found (g .engine) (g .order) s ∙ sym (found engine order t))
-    go false false s t = unfold pick in refl
+    whole : first (sessionCauses o c l ++ (engineCauses engine ++ (placeCauses o c ++ (orderCauses o engine order ++ stepCauses c l))))
+        ≡ pick (eqb (first (sessionCauses o c l)) 0)
+        (first (engineCauses engine ++ (placeCauses o c ++ (orderCauses o engine order ++ stepCauses c l)))) (first (sessionCauses o c l))
+    whole = first-++ (sessionCauses o c l) _ (session-numbered o c engine order l)
+
+    placed : (c : Call) → Admitted (first (placeCauses o c ++ (orderCauses o engine order ++ stepCauses c l)))
+        → first (placeCauses o c ++ (orderCauses o engine order ++ stepCauses c l)) ≡ first (orderCauses o engine order ++ stepCauses c l)
+    placed Open t = refl
+    placed Show t = refl
+    placed (Decide e) t = first-skip (placeCauses o (Decide e)) _ (t .not-7, tt)
+    placed Back t = refl
+    placed CoilOn t = refl
+
+    skipped : Admitted (first (engineCauses engine ++ (placeCauses o c ++ (orderCauses o engine order ++ stepCauses c l))))
+        → first (engineCauses engine ++ (placeCauses o c ++ (orderCauses o engine order ++ stepCauses c l))) ≡ first (stepCauses c l)
+    skipped t =
+        let a = first-skip (engineCauses engine) (placeCauses o c ++ (orderCauses o engine order ++ stepCauses c l)) (t .not-7, tt) in
+        let b = placed c (rw a at t) in
+        let d = rw b at (rw a at t) in
+        a ∙ b ∙ first-skip (orderCauses o engine order) (stepCauses c l) (d .not-8, (d .not-9, tt))
+
+    go : (s : Bool) → Admitted (pick s (first (engineCauses engine ++ (placeCauses o c ++ (orderCauses o engine order ++ stepCauses c l)))) (first (sessionCauses o c l)))
+        → pick s (first (engineCauses engine ++ (placeCauses o c ++ (orderCauses o engine order ++ stepCauses c l)))) (first (sessionCauses o c l))
+        ≡ pick s (first (stepCauses c l)) (first (sessionCauses o c l))
+    go true t = unfold pick in skipped (unfold pick in t)
+    go false t = unfold pick in refl
+
+-- the stages of a number, each deciding where those before it have no cause that applies
+number-stages : (g : Given) (c : Call) (l : Ledger) → number g c l
+    ≡ pick (eqb (first (spaceCauses g)) 0) (pick (eqb (first (sheetCauses (g .sheet))) 0)
+    (pick (eqb (first (judged (outlineOf (numbers (ofBytes (g .sheet)))) c (g .engine) (g .order) l)) 0)
+    (first (offersCauses (numbers (ofBytes (g .sheet))) (step c l))) (first (judged (outlineOf (numbers (ofBytes (g .sheet)))) c (g .engine) (g .order) l)))
+    (first (sheetCauses (g .sheet)))) (first (spaceCauses g))
+unfolding number causes
+number-stages g c l = rw (first-++ (spaceCauses g) _ (space-numbered g c l), first-++ (sheetCauses (g .sheet)) _ (sheet-numbered g c l),
+    first-++ (judged (outlineOf (numbers (ofBytes (g .sheet)))) c (g .engine) (g .order) l) _ (early-numbered g c l))
+
+-- Whatever engine and order a call is given, if it is not refused for them: the same number.
+pub engine-and-order : (g : Given) (engine : ℕ) (order : List ℕ) (c : Call) (l : Ledger) → Admitted (number g c l) → Admitted (number (lending g engine order) c l)
+    → number g c l ≡ number (lending g engine order) c l
+unfolding spaceShort
+engine-and-order g engine order c l s t =
+    let a = number-stages g c l in
+    let b = number-stages (lending g engine order) c l in
+    let o = outlineOf (numbers (ofBytes (g .sheet))) in
+    a ∙ go (eqb (first (spaceCauses g)) 0) (eqb (first (sheetCauses (g .sheet))) 0) (first (spaceCauses g)) (first (sheetCauses (g .sheet))) _ _ _
+    (λ x y. judged-else o c (g .engine) (g .order) l x ∙ sym (judged-else o c engine order l y)) (rw a at s) (rw b at t) ∙ sym b
+  where
+    found : (k r : ℕ) → Admitted (pick (eqb k 0) r k) → Admitted k
+    found k r t = by (eqb k 0) refl t
+      where
+        by : (b : Bool) → eqb k 0 ≡ b → Admitted (pick b r k) → Admitted k
+        by true e t = rw (eqb-true k 0 e) admitted-0
+        by false e t = unfold pick in t
+
+    go : (a b : Bool) (p q r j k : ℕ) → (Admitted j → Admitted k → j ≡ k) → Admitted (pick a (pick b (pick (eqb j 0) r j) q) p) → Admitted (pick a (pick b (pick (eqb k 0) r k) q) p)
+        → pick a (pick b (pick (eqb j 0) r j) q) p ≡ pick a (pick b (pick (eqb k 0) r k) q) p
+    go false b p q r j k h s t = unfold pick in refl
+    go true false p q r j k h s t = unfold pick in refl
+    go true true p q r j k h s t = ap (λ (n : ℕ). pick true (pick true (pick (eqb n 0) r n) q) p) (h (found j r (unfold pick in s)) (found k r (unfold pick in t)))
