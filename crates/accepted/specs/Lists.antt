@@ -59,6 +59,11 @@ module _ (n : ℕ) (g : ℕ → ℕ) where
       total : length (tabulate k g) + (n - k) ≡ n
       total = let s = length-tabulate k g in omega arith
 
+  -- all n places
+  pub filling-whole : (m : List ℕ) → Filling n g n m → m ≡ tabulate n g
+  filling-whole m p = ext-getD 0 m _ (p .sized ∙ sym (length-tabulate n g)) (λ f l.
+      let h : f < n = let s = p .sized in omega arith in p .done f h ∙ sym (getD-tabulate n g f h))
+
 -- where g is 0 from k on, no place after k matters
 pub tabulate-pad : (n k : ℕ) (g : ℕ → ℕ) → k ≤ n → ((f : ℕ) → k ≤ f → g f ≡ 0) → tabulate n g ≡ pad (n - k) (tabulate k g)
 tabulate-pad n k g h none = filling-last n g k (tabulate n g) h (record {

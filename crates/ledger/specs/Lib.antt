@@ -2,6 +2,7 @@
 pub mod Occurrences
 pub mod Ledger
 -- what holds of it
+pub mod Kinds
 pub mod Causes
 pub mod Judging
 pub mod Laws

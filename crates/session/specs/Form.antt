@@ -1,216 +1,206 @@
 -- A malformed session, as code finds it. Assumes nothing.
 use mathlib.Core.Path.{_≡_, refl, sym, ap, _∙_}
 use mathlib.Core.Logic.{⊎-elim}
-use mathlib.Core.Bool.{Bool, true, false, not, _&&_, _||_, and-false}
+use mathlib.Core.Bool.{Bool, true, false, not, _&&_, _||_}
 use mathlib.Core.List.{List, _∷_}
-use Prim.Native.Nat.{ℕ, _-_, _^_, _≤_, _<_}
+use Prim.Native.Nat.{ℕ, _+_, _-_, _^_, _≤_, _<_}
+use native.Mathlib.Nat.{eq-or-lt-of-le}
 use native.Mathlib.Omega.{arith}
-use lib.Dec.{ltb, leb}
+use lib.Bits.{bitAnd}
+use lib.Dec.{eqb, ltb}
 use lib.ListN.{length, getD, List·getD-eq-default}
-use borrow.Author.Tests.{ltb-true, ltb-false, lt-ltb, le-ltb, le-leb, lt-leb}
+use borrow.Author.Count.{below-more}
+use borrow.Author.Tests.{eqb-true, eq-eqb, ne-eqb, ltb-true, ltb-false, lt-ltb, le-ltb}
+use Rattle.limits.specs.Limits.{mostFields, mostEvents}
 use Rattle.masks.specs.Tests.{never, not-so, bool-cases, iff-eq, and-l, and-r, and-by, allBelow, allBelow-at, allBelow-by}
-use Rattle.masks.specs.Bits.{bit, bit-of-zero, bit-bound, lt-of-bits}
+use Rattle.masks.specs.Bits.{bit, bit-of-zero, bit-ext, bit-nonzero, Within}
+use Rattle.masks.specs.Masks.{keepBits, bit-keepBits}
+use Rattle.masks.specs.Words.{bit-and-not}
 use Rattle.masks.specs.Sets.{has}
-use Rattle.masks.specs.Pick.{pick, pick-true, pick-false}
-use Rattle.sheet.specs.Judge.{Accepted}
-use Rattle.accepted.specs.Parts.{fieldsOf, countOf}
-use Rattle.accepted.specs.Facts.{facts}
-use Rattle.ledger.specs.Ledger.{Decision, choice, strike, Event, same, with, without, onSheet, allOnSheet, reversible, illFormed}
+use Rattle.accepted.specs.declared.outline.Outline.{Outline}
+use Rattle.ledger.specs.declared.Event.{Event}
+use Rattle.ledger.specs.Ledger.{Decision, choice, strike, Change, adds, withdraws, neither, changeOf, sameDecision, inForce, with, without, changed, reverted}
+use Rattle.ledger.specs.Ledger.{onSheet, allOnSheet, revertible, reversible, malformed}
+use Rattle.ledger.specs.Kinds.{change-any}
 use Rattle.ledger.specs.Laws.{inForce-with, inForce-without, allOn-at, allOn-by, Alike, alike-reversible}
-use Rattle.session.specs.declared.Event.{Event as EventWords}
 use Rattle.session.specs.declared.Session.{Session}
 use Rattle.session.specs.declared.decisions.Decisions.{Decisions}
-use Rattle.session.specs.Decisions.{decisionOf, heldIn, gained, lost, Long, gained-long, lost-long, held-gained, held-lost}
-use Rattle.session.specs.Events.{eventBy, noEvent, past, length-past, past-latest, ofStrike, canReverse, reverses, undone, ByKind, by-added, by-withdrawn, by-unknown, byKind}
-use Rattle.session.specs.View.{decisionsOf, inForce-of, decisionsIn, view}
+use Rattle.session.specs.Decisions.{heldIn, gained, lost, changedIn, revertedIn, Found, Long, reverted-long, Low, LowChange, change-low, held-gained, held-lost}
+use Rattle.session.specs.View.{decisionsOf, inForce-of, noEvent, past, length-past, past-latest, view}
 
--- ---- a setting on the sheet
+-- ---- a decision on the sheet
 
--- how many positions a field has, none where it is not on the sheet
-unfoldable pub roomOf : List ℕ → ℕ → ℕ
-roomOf xs f = pick (ltb f (fieldsOf xs)) (countOf xs f) 0
-
-pub room-none : (xs : List ℕ) (f n : ℕ) → n ≡ fieldsOf xs → n ≤ f → (0 ≡ roomOf xs f) × (0 ≤ 24)
-unfolding roomOf
-room-none xs f n e h = (sym (pick-false _ _ _ (le-ltb f (fieldsOf xs) (omega arith))), omega arith)
-
-pub room-some : (xs : List ℕ) → Accepted xs → (f n d : ℕ) → n ≡ fieldsOf xs → f < n → d ≡ countOf xs f → (d ≡ roomOf xs f) × (d ≤ 24)
-unfolding roomOf
-room-some xs a f n d e h q =
-    let l : f < fieldsOf xs = omega arith in
-    (q ∙ sym (pick-true _ _ _ (lt-ltb f (fieldsOf xs) l)), let m = facts xs a .count-few f l in omega arith)
-
-pub on-room : (xs : List ℕ) (f v : ℕ) → ltb v (roomOf xs f) ≡ onSheet xs (choice f v)
-unfolding onSheet roomOf
-on-room xs f v = go (ltb f (fieldsOf xs))
-  where
-    go : (t : Bool) → ltb v (pick t (countOf xs f) 0) ≡ (t && ltb v (countOf xs f))
-    go true = unfold pick in refl
-    go false = unfold pick in le-ltb v 0 (omega arith)
-
-module _ (xs : List ℕ) (a : Accepted xs) where
-  -- it is small
-  pub on-low : (f v : ℕ) → onSheet xs (choice f v) ≡ true → (f < fieldsOf xs) × (v < countOf xs f) × (f < 24) × (v < 24)
-  unfolding onSheet
-  on-low f v e =
-      let h = ltb-true f (fieldsOf xs) (and-l _ _ e) in
-      let k = ltb-true v (countOf xs f) (and-r (ltb f (fieldsOf xs)) _ e) in
-      let n = facts xs a .fields-few in
-      let m = facts xs a .count-few f h in
-      (h, k, omega arith, omega arith)
-
--- for a strike it is the same
-pub on-either : (xs : List ℕ) (s : Bool) (f v : ℕ) → onSheet xs (decisionOf s f v) ≡ onSheet xs (choice f v)
+pub on-choice : (o : Outline) (f v : ℕ) → onSheet o (choice f v) ≡ has (o .full) f v
 unfolding onSheet
-on-either xs true f v = refl
-on-either xs false f v = refl
+on-choice o f v = refl
+
+pub on-strike : (o : Outline) (f v : ℕ) → onSheet o (strike f v) ≡ has (o .full) f v
+unfolding onSheet
+on-strike o f v = refl
 
 -- ---- masks on the sheet
 
+-- the positions of a mask that are none of the field's
+abbrev pub strangers : ℕ → ℕ → ℕ
+strangers all m = keepBits m (λ v. not (bit all v))
+
 unfoldable pub masksOnSheet : List ℕ → List ℕ → Bool
-masksOnSheet xs ms = allBelow 24 (λ f. ltb (getD ms f 0) (2 ^ roomOf xs f))
+masksOnSheet full ms = allBelow mostFields (λ f. eqb (strangers (getD full f 0) (getD ms f 0)) 0)
 
-module _ (xs ms : List ℕ) where
-  pub masks-off : (f : ℕ) → f < 24 → 2 ^ roomOf xs f ≤ getD ms f 0 → false ≡ masksOnSheet xs ms
+-- as code spells it
+pub strangers-code : (all m : ℕ) → all < 2 ^ 32 → m < 2 ^ 32 → bitAnd m (2 ^ 32 - 1 - all) ≡ strangers all m
+strangers-code all m a b = bit-ext _ _ (λ v. bit-and-not 32 m all v b a ∙ sym (bit-keepBits m (λ v. not (bit all v)) v))
+
+module _ (full ms : List ℕ) where
+  -- the first f masks are on the sheet
+  abbrev pub Inside : ℕ → Type 0
+  Inside f = (g : ℕ) → g < f → strangers (getD full g 0) (getD ms g 0) ≡ 0
+
+  pub inside-next : (f : ℕ) → Inside f → strangers (getD full f 0) (getD ms f 0) ≡ 0 → Inside (f + 1)
+  inside-next f h e = below-more (λ g. strangers (getD full g 0) (getD ms g 0) ≡ 0) f h e
+
+  pub masks-off : (f : ℕ) → f < mostFields → (strangers (getD full f 0) (getD ms f 0) ≡ 0 → ⊥) → false ≡ masksOnSheet full ms
   unfolding masksOnSheet
-  masks-off f h k = sym (not-so _ (λ e. never (allBelow-at 24 _ e f h) (le-ltb _ _ k)))
+  masks-off f h k = sym (not-so _ (λ e. k (eqb-true _ 0 (allBelow-at mostFields _ e f h))))
 
-  pub masks-on : ((f : ℕ) → f < 24 → getD ms f 0 < 2 ^ roomOf xs f) → true ≡ masksOnSheet xs ms
+  pub masks-on : Inside mostFields → true ≡ masksOnSheet full ms
   unfolding masksOnSheet
-  masks-on h = sym (allBelow-by 24 _ (λ f l. lt-ltb _ _ (h f l)))
+  masks-on h = sym (allBelow-by mostFields _ (λ f l. eq-eqb _ 0 (h f l)))
 
-  pub masks-at : length ms ≡ 24 → masksOnSheet xs ms ≡ true → (f v : ℕ) → has ms f v ≡ true → onSheet xs (choice f v) ≡ true
-  unfolding masksOnSheet has onSheet roomOf
+  pub masks-at : length ms ≡ mostFields → masksOnSheet full ms ≡ true → (f v : ℕ) → has ms f v ≡ true → has full f v ≡ true
+  unfolding masksOnSheet has
   masks-at n e f v b = ⊎-elim
-      (λ q. let l = ltb-true f 24 q in let k = bit-bound (roomOf xs f) (getD ms f 0) v (ltb-true _ _ (allBelow-at 24 _ e f l)) b in go (ltb f (fieldsOf xs)) refl k)
-      (λ q. absurd (never b (ap (λ (x : ℕ). bit x v) (List·getD-eq-default ms 0 (let l = ltb-false f 24 q in omega arith)) ∙ bit-of-zero v)))
-      (bool-cases (ltb f 24))
+      (λ q. inside (eqb-true _ 0 (allBelow-at mostFields _ e f (ltb-true f mostFields q))))
+      (λ q. absurd (never b (ap (λ (x : ℕ). bit x v) (List·getD-eq-default ms 0 (let l = ltb-false f mostFields q in omega arith)) ∙ bit-of-zero v)))
+      (bool-cases (ltb f mostFields))
     where
-      go : (t : Bool) → ltb f (fieldsOf xs) ≡ t → v < pick t (countOf xs f) 0 → (t && ltb v (countOf xs f)) ≡ true
-      go true q k = unfold pick in lt-ltb v (countOf xs f) k
-      go false q k = unfold pick in absurd (omega arith)
+      inside : strangers (getD full f 0) (getD ms f 0) ≡ 0 → bit (getD full f 0) v ≡ true
+      inside z = ⊎-elim (λ q. q)
+          (λ q. absurd (bit-nonzero (strangers (getD full f 0) (getD ms f 0)) v (bit-keepBits (getD ms f 0) (λ v. not (bit (getD full f 0) v)) v ∙ and-by _ _ b (ap not q)) z))
+          (bool-cases (bit (getD full f 0) v))
 
-  pub masks-by : ((f v : ℕ) → has ms f v ≡ true → onSheet xs (choice f v) ≡ true) → masksOnSheet xs ms ≡ true
-  unfolding masksOnSheet has onSheet roomOf
-  masks-by h = allBelow-by 24 _ (λ f l. lt-ltb _ _ (lt-of-bits (roomOf xs f) (getD ms f 0) (λ v k. not-so _ (λ b.
-      let e = h f v b in
-      let m = ltb-true f (fieldsOf xs) (and-l _ _ e) in
-      let w = ltb-true v (countOf xs f) (and-r (ltb f (fieldsOf xs)) _ e) in
-      let r : roomOf xs f ≡ countOf xs f = pick-true _ _ _ (lt-ltb f (fieldsOf xs) m) in
-      absurd (omega arith)))))
+  pub masks-by : ((f v : ℕ) → has ms f v ≡ true → has full f v ≡ true) → masksOnSheet full ms ≡ true
+  unfolding masksOnSheet has
+  masks-by h = allBelow-by mostFields _ (λ f l. eq-eqb _ 0 (bit-ext _ 0 (λ v. not-so _ (λ e.
+      let b = sym (bit-keepBits (getD ms f 0) (λ v. not (bit (getD full f 0) v)) v) ∙ e in
+      never (and-r (bit (getD ms f 0) v) _ b) (ap not (h f v (and-l _ _ b)))) ∙ sym (bit-of-zero v))))
 
-module _ (xs : List ℕ) (d : Decisions) (l : Long d) where
+module _ (o : Outline) (d : Decisions) (l : Long d) where
   -- all decisions are on the sheet where both sets of masks are
-  pub all-on : allOnSheet xs (decisionsOf d) ≡ (masksOnSheet xs (d .choices) && masksOnSheet xs (d .strikes))
+  pub all-on : allOnSheet o (decisionsOf d) ≡ (masksOnSheet (o .full) (d .choices) && masksOnSheet (o .full) (d .strikes))
+  unfolding onSheet
   all-on = iff-eq _ _
-      (λ h. and-by _ _ (masks-by xs (d .choices) (λ f v b. allOn-at xs (decisionsOf d) h (choice f v) (inForce-of d (choice f v) ∙ b)))
-      (masks-by xs (d .strikes) (λ f v b. sym (on-either xs true f v) ∙ allOn-at xs (decisionsOf d) h (strike f v) (inForce-of d (strike f v) ∙ b))))
-      (λ h. allOn-by xs (decisionsOf d) (λ e q. by e (sym (inForce-of d e) ∙ q) (and-l _ _ h) (and-r (masksOnSheet xs (d .choices)) _ h)))
+      (λ h. and-by _ _ (masks-by (o .full) (d .choices) (λ f v b. allOn-at o (decisionsOf d) h (choice f v) (inForce-of d (choice f v) ∙ b)))
+      (masks-by (o .full) (d .strikes) (λ f v b. allOn-at o (decisionsOf d) h (strike f v) (inForce-of d (strike f v) ∙ b))))
+      (λ h. allOn-by o (decisionsOf d) (λ e q. by e (sym (inForce-of d e) ∙ q) (and-l _ _ h) (and-r (masksOnSheet (o .full) (d .choices)) _ h)))
     where
-      by : (e : Decision) → heldIn d e ≡ true → masksOnSheet xs (d .choices) ≡ true → masksOnSheet xs (d .strikes) ≡ true → onSheet xs e ≡ true
-      by (choice f v) b p q = masks-at xs (d .choices) (l .choices) p f v b
-      by (strike f v) b p q = on-either xs true f v ∙ masks-at xs (d .strikes) (l .strikes) q f v b
+      by : (e : Decision) → heldIn d e ≡ true → masksOnSheet (o .full) (d .choices) ≡ true → masksOnSheet (o .full) (d .strikes) ≡ true → onSheet o e ≡ true
+      by (choice f v) b p q = unfold onSheet in masks-at (o .full) (d .choices) (l .choices) p f v b
+      by (strike f v) b p q = unfold onSheet in masks-at (o .full) (d .strikes) (l .strikes) q f v b
+
+-- ---- a change of the masks is that of the decisions
+
+module _ (d : Decisions) (l : Long d) where
+  alike-lost : (x : Decision) → Low x → Alike (without x (decisionsOf d)) (decisionsOf (lost d x))
+  alike-lost x h e = inForce-without x (decisionsOf d) e ∙ ap (λ (b : Bool). b && not (sameDecision x e)) (inForce-of d e)
+      ∙ sym (held-lost d l x h e) ∙ sym (inForce-of (lost d x) e)
+
+  alike-gained : (x : Decision) → Low x → Alike (with x (decisionsOf d)) (decisionsOf (gained d x))
+  alike-gained x h e = inForce-with x (decisionsOf d) e ∙ ap (λ (b : Bool). sameDecision x e || b) (inForce-of d e)
+      ∙ sym (held-gained d l x h e) ∙ sym (inForce-of (gained d x) e)
+
+  pub alike-changed-in : (k : Change) → LowChange k → Alike (changed k (decisionsOf d)) (decisionsOf (changedIn k d))
+  alike-changed-in (adds x) h = alike-gained x h
+  alike-changed-in (withdraws x) h = alike-lost x h
+  alike-changed-in neither h = λ e. refl
+
+  pub alike-reverted-in : (k : Change) → LowChange k → Alike (reverted k (decisionsOf d)) (decisionsOf (revertedIn k d))
+  alike-reverted-in (adds x) h = alike-lost x h
+  alike-reverted-in (withdraws x) h = alike-gained x h
+  alike-reverted-in neither h = λ e. refl
 
 -- ---- the events, from the latest on
 
-module _ (d : Decisions) (l : Long d) (f v : ℕ) (low : f < 24) where
-  pub alike-lost : (s : Bool) → Alike (without (decisionOf s f v) (decisionsOf d)) (decisionsOf (lost d s f v))
-  alike-lost s e = inForce-without (decisionOf s f v) (decisionsOf d) e ∙ ap (λ (b : Bool). b && not (same (decisionOf s f v) e)) (inForce-of d e)
-      ∙ sym (held-lost d l s f v low e) ∙ sym (inForce-of (lost d s f v) e)
+-- whether an event can be reversed; if so, its decision lies within the masks
+pub record CanRevert (o : Outline) (d : Decisions) (e : Event) (r : Bool) : Type 0 where
+  pub is : r ≡ revertible o (changeOf e) (decisionsOf d)
+  pub low : r ≡ true → (e .field < mostFields) × (e .position < 32)
 
-  pub alike-gained : (s : Bool) → Alike (with (decisionOf s f v) (decisionsOf d)) (decisionsOf (gained d s f v))
-  alike-gained s e = inForce-with (decisionOf s f v) (decisionsOf d) e ∙ ap (λ (b : Bool). same (decisionOf s f v) e || b) (inForce-of d e)
-      ∙ sym (held-gained d l s f v low e) ∙ sym (inForce-of (gained d s f v) e)
+module _ (o : Outline) (d : Decisions) (e : Event) where
+  module _ (on : Bool) (found : Found (o .full) (e .field) (e .position) on) where
+    pub revert-off : on ≡ false → CanRevert o d e false
+    unfolding onSheet
+    revert-off n = record {
+      is = change-any (e .kind) (e .field) (e .position) (λ k. false ≡ revertible o k (decisionsOf d)) (off _) (off _) (off _) (off _) refl;
+      low = λ z. absurd (never z refl);
+    }
+      where
+        off : (b : Bool) → false ≡ (has (o .full) (e .field) (e .position) && b)
+        off b = ap (λ (t : Bool). t && b) (sym n ∙ found .is)
 
--- one event
-module _ (xs : List ℕ) (d : Decisions) (past : List Event) (kind f v : ℕ) where
-  pub event-off : onSheet xs (choice f v) ≡ false → reversible xs (eventBy kind f v ∷ past) (decisionsOf d) ≡ false
-  unfolding reversible
-  event-off e = go (byKind kind f v)
-    where
-      go : ByKind kind f v → reversible xs (eventBy kind f v ∷ past) (decisionsOf d) ≡ false
-      go (by-added l q) = rw (q, on-either xs (ofStrike kind) f v, e)
-      go (by-withdrawn l q) = rw (q, on-either xs (ofStrike kind) f v, e)
-      go (by-unknown q) = rw q
+    module _ (y : on ≡ true) (x : Decision) (s : onSheet o x ≡ has (o .full) (e .field) (e .position)) (r : Bool) (h : r ≡ heldIn d x) where
+      here : (b : Bool) → b ≡ (onSheet o x && b)
+      here b = sym (ap (λ (t : Bool). t && b) (s ∙ sym (found .is) ∙ y))
 
-  pub event-stuck : canReverse (eventBy kind f v) (heldIn d) ≡ false → reversible xs (eventBy kind f v ∷ past) (decisionsOf d) ≡ false
-  unfolding reversible canReverse
-  event-stuck e = go (byKind kind f v)
-    where
-      go : ByKind kind f v → reversible xs (eventBy kind f v ∷ past) (decisionsOf d) ≡ false
-      go (by-added l q) = let s : heldIn d (decisionOf (ofStrike kind) f v) ≡ false = rw q at e in rw (q, inForce-of d (decisionOf (ofStrike kind) f v), s) (and-false (onSheet xs (decisionOf (ofStrike kind) f v)))
-      go (by-withdrawn l q) = let s : not (heldIn d (decisionOf (ofStrike kind) f v)) ≡ false = rw q at e in rw (q, inForce-of d (decisionOf (ofStrike kind) f v), s) (and-false (onSheet xs (decisionOf (ofStrike kind) f v)))
-      go (by-unknown q) = rw q
+      pub revert-addition : changeOf e ≡ adds x → CanRevert o d e r
+      revert-addition q = record { is = rw q (h ∙ sym (inForce-of d x) ∙ here (inForce (decisionsOf d) x)); low = λ _. found .low y }
 
-  event-undone : Long d → f < 24 → onSheet xs (choice f v) ≡ true → canReverse (eventBy kind f v) (heldIn d) ≡ true
-      → reversible xs (eventBy kind f v ∷ past) (decisionsOf d) ≡ reversible xs past (decisionsOf (undone d (record { kind = kind; field = f; position = v })))
-  unfolding reversible canReverse
-  event-undone l low o e = go (byKind kind f v)
-    where
-      go : ByKind kind f v → reversible xs (eventBy kind f v ∷ past) (decisionsOf d) ≡ reversible xs past (decisionsOf (undone d (record { kind = kind; field = f; position = v })))
-      go (by-added k q) =
-          let s : heldIn d (decisionOf (ofStrike kind) f v) ≡ true = rw q at e in
-          rw (q, on-either xs (ofStrike kind) f v, o, inForce-of d (decisionOf (ofStrike kind) f v), s, pick-true (leb kind 2) (lost d (ofStrike kind) f v) (gained d (ofStrike kind) f v) (le-leb kind 2 k))
-          (alike-reversible xs past _ _ (alike-lost d l f v low (ofStrike kind)))
-      go (by-withdrawn k q) =
-          let s : not (heldIn d (decisionOf (ofStrike kind) f v)) ≡ true = rw q at e in
-          rw (q, on-either xs (ofStrike kind) f v, o, inForce-of d (decisionOf (ofStrike kind) f v), s, pick-false (leb kind 2) (lost d (ofStrike kind) f v) (gained d (ofStrike kind) f v) (lt-leb kind 2 k))
-          (alike-reversible xs past _ _ (alike-gained d l f v low (ofStrike kind)))
-      go (by-unknown q) = absurd (never e (rw q))
+      pub revert-withdrawal : changeOf e ≡ withdraws x → CanRevert o d e (not r)
+      revert-withdrawal q = record { is = rw q (ap not (h ∙ sym (inForce-of d x)) ∙ here (not (inForce (decisionsOf d) x))); low = λ _. found .low y }
 
-pub undone-long : (d : Decisions) (e : EventWords) → Long d → Long (undone d e)
-undone-long d e l = go (leb (e .kind) 2)
-  where
-    go : (t : Bool) → Long (pick t (lost d (ofStrike (e .kind)) (e .field) (e .position)) (gained d (ofStrike (e .kind)) (e .field) (e .position)))
-    go true = unfold pick in lost-long d (ofStrike (e .kind)) (e .field) (e .position) l
-    go false = unfold pick in gained-long d (ofStrike (e .kind)) (e .field) (e .position) l
+  pub revert-none : changeOf e ≡ neither → CanRevert o d e false
+  revert-none q = record { is = rw q; low = λ z. absurd (never z refl) }
 
 -- The first k events are still to be reversed.
-pub record Reversing (xs : List ℕ) (start : Decisions) (es : List EventWords) (count : ℕ) (d : Decisions) (k : ℕ) : Type 0 where
-  pub few : k ≤ 64
+pub record Reversing (o : Outline) (start : Decisions) (es : List Event) (count : ℕ) (d : Decisions) (k : ℕ) : Type 0 where
+  pub few : k ≤ mostEvents
   pub long : Long d
-  pub rest : reversible xs (past es count) (decisionsOf start) ≡ reversible xs (past es k) (decisionsOf d)
+  pub rest : reversible o (past es count) (decisionsOf start) ≡ reversible o (past es k) (decisionsOf d)
 
-module _ (xs : List ℕ) (start : Decisions) (es : List EventWords) (count : ℕ) where
-  pub reversing-start : Long start → count ≤ 64 → Reversing xs start es count start count
+module _ (o : Outline) (start : Decisions) (es : List Event) (count : ℕ) where
+  pub reversing-start : Long start → count ≤ mostEvents → Reversing o start es count start count
   reversing-start l h = record { few = h; long = l; rest = refl }
 
-  module _ (d : Decisions) (k : ℕ) (h : 0 < k) (p : Reversing xs start es count d k) where
-    abbrev e : EventWords
+  module _ (d : Decisions) (k : ℕ) (h : 0 < k) (p : Reversing o start es count d k) where
+    abbrev e : Event
     e = getD es (k - 1) noEvent
 
-    pub reversing-off : false ≡ onSheet xs (choice (e .field) (e .position)) → false ≡ reversible xs (past es count) (decisionsOf start)
-    reversing-off o = sym (p .rest ∙ rw (past-latest es k h) (event-off xs d (past es (k - 1)) (e .kind) (e .field) (e .position) (sym o)))
+    latest : (b : Bool) → revertible o (changeOf e) (decisionsOf d) ≡ b
+        → reversible o (past es count) (decisionsOf start) ≡ (b && reversible o (past es (k - 1)) (reverted (changeOf e) (decisionsOf d)))
+    unfolding reversible
+    latest b q = p .rest ∙ rw (past-latest es k h) (ap (λ (t : Bool). t && reversible o (past es (k - 1)) (reverted (changeOf e) (decisionsOf d))) q)
 
-    pub reversing-stuck : false ≡ reverses d e → false ≡ reversible xs (past es count) (decisionsOf start)
-    reversing-stuck o = sym (p .rest ∙ rw (past-latest es k h) (event-stuck xs d (past es (k - 1)) (e .kind) (e .field) (e .position) (sym o)))
+    module _ (can : Bool) (r : CanRevert o d e can) where
+      pub reversing-stuck : can ≡ false → false ≡ reversible o (past es count) (decisionsOf start)
+      reversing-stuck n = sym (latest false (sym (r .is) ∙ n))
 
-    pub reversing-next : e .field < 24 → true ≡ onSheet xs (choice (e .field) (e .position)) → true ≡ reverses d e → Reversing xs start es count (undone d e) (k - 1)
-    reversing-next low o c = record {
-      few = let f = p .few in omega arith;
-      long = undone-long d e (p .long);
-      rest = p .rest ∙ rw (past-latest es k h) (event-undone xs d (past es (k - 1)) (e .kind) (e .field) (e .position) (p .long) low (sym o) (sym c));
-    }
+      pub reversing-next : can ≡ true → Reversing o start es count (revertedIn (changeOf e) d) (k - 1)
+      reversing-next y = record {
+        few = let f = p .few in omega arith;
+        long = reverted-long (changeOf e) d (p .long);
+        rest = latest true (sym (r .is) ∙ y)
+            ∙ alike-reversible o (past es (k - 1)) _ _ (alike-reverted-in d (p .long) (changeOf e) (change-low (e .kind) (e .field) (e .position) (r .low y .0)));
+      }
 
-  pub reversing-end : (d : Decisions) (k : ℕ) → k ≡ 0 → Reversing xs start es count d k → true ≡ reversible xs (past es count) (decisionsOf start)
+  pub reversing-end : (d : Decisions) (k : ℕ) → k ≡ 0 → Reversing o start es count d k → true ≡ reversible o (past es count) (decisionsOf start)
   reversing-end d k z p = sym (p .rest ∙ rw z (unfold past reversible in refl))
 
 -- ---- all of it
 
-module _ (xs : List ℕ) (s : Session) (l : Long (decisionsIn s)) where
-  pub ill-choices : false ≡ masksOnSheet xs (s .choices) → true ≡ illFormed xs (view s)
-  unfolding illFormed view
-  ill-choices e = sym (rw (all-on xs (decisionsIn s) l, sym e))
+module _ (o : Outline) (s : Session) (l : Long (s .decisions)) where
+  pub ill-choices : false ≡ masksOnSheet (o .full) (s .decisions .choices) → true ≡ malformed o (view s)
+  unfolding malformed view
+  ill-choices e = sym (rw (all-on o (s .decisions) l, sym e))
 
-  pub ill-strikes : true ≡ masksOnSheet xs (s .choices) → false ≡ masksOnSheet xs (s .strikes) → true ≡ illFormed xs (view s)
-  unfolding illFormed view
-  ill-strikes a e = sym (rw (all-on xs (decisionsIn s) l, sym a, sym e))
+  pub ill-strikes : true ≡ masksOnSheet (o .full) (s .decisions .choices) → false ≡ masksOnSheet (o .full) (s .decisions .strikes) → true ≡ malformed o (view s)
+  unfolding malformed view
+  ill-strikes a e = sym (rw (all-on o (s .decisions) l, sym a, sym e))
 
-  module _ (a : true ≡ masksOnSheet xs (s .choices)) (b : true ≡ masksOnSheet xs (s .strikes)) where
-    pub ill-count : 64 < s .count → true ≡ illFormed xs (view s)
-    unfolding illFormed view
-    ill-count h = sym (rw (all-on xs (decisionsIn s) l, sym a, sym b, length-past (s .events) (s .count), lt-ltb 64 (s .count) h))
+  module _ (a : true ≡ masksOnSheet (o .full) (s .decisions .choices)) (b : true ≡ masksOnSheet (o .full) (s .decisions .strikes)) where
+    pub ill-count : mostEvents < s .count → true ≡ malformed o (view s)
+    unfolding malformed view
+    ill-count h = sym (rw (all-on o (s .decisions) l, sym a, sym b, length-past (s .events) (s .count), lt-ltb mostEvents (s .count) h))
 
-    pub ill-events : (r : Bool) → s .count ≤ 64 → r ≡ reversible xs (past (s .events) (s .count)) (decisionsOf (decisionsIn s)) → not r ≡ illFormed xs (view s)
-    unfolding illFormed view
-    ill-events r h e = rw (all-on xs (decisionsIn s) l, sym a, sym b, length-past (s .events) (s .count), le-ltb 64 (s .count) h) (ap not e)
+    pub ill-events : (r : Bool) → s .count ≤ mostEvents → r ≡ reversible o (past (s .events) (s .count)) (decisionsOf (s .decisions)) → not r ≡ malformed o (view s)
+    unfolding malformed view
+    ill-events r h e = rw (all-on o (s .decisions) l, sym a, sym b, length-past (s .events) (s .count), le-ltb mostEvents (s .count) h) (ap not e)

@@ -1,4 +1,6 @@
+-- What the contracts of `session` cite.
 pub mod Decisions
-pub mod Events
 pub mod View
 pub mod Form
+pub mod Start
+pub mod Steps

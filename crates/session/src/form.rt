@@ -1,49 +1,51 @@
 // Whether a session is malformed: a decision is not on the sheet, the count exceeds 64, or the events cannot be reversed.
 ghost use mathlib.Core.Path.{_≡_};
-ghost use Prim.Native.Nat.{_≤_};
-ghost use Rattle.sheet.specs.Judge.{Accepted};
-ghost use Rattle.ledger.specs.Ledger.{choice, onSheet, reversible, illFormed};
-ghost use Rattle.session.specs.Events.{past};
-ghost use Rattle.session.specs.View.{decisionsOf, view};
-ghost use Rattle.session.specs.Form.{roomOf, masksOnSheet};
-use super::Event;
+ghost use mathlib.Core.Bool.{true};
+ghost use Prim.Native.Nat.{_≤_, _<_};
+ghost use lib.Dec.{eqb};
+ghost use Rattle.limits.specs.Limits.{mostFields, mostEvents};
+ghost use Rattle.ledger.specs.Ledger.{changeOf, revertible, reversible, malformed};
+ghost use Rattle.session.specs.Decisions.{Found};
+ghost use Rattle.session.specs.View.{decisionsOf, past, view};
+ghost use Rattle.session.specs.Form.{strangers, masksOnSheet, CanRevert};
 use super::Session;
 use super::decisions::Decisions;
-use super::decisions::reverse;
-use super::decisions::reversible;
-use accepted::parts;
-
-// The most events that a session holds.
-pub const MOST_EVENTS: u32 = 64;
-
-// How many positions a field has on the sheet; none where it is no field of it.
-fn room(numbers: &[u32], f: usize) -> usize
-    requires { ⌜ Accepted (now numbers) ⌝ }
-    ensures { λ r. ⌜ (r ≡ roomOf (now (numbers .entry)) f) × (r ≤ 24) ⌝ }
-{
-    if parts::fields(numbers) <= f {
-        return 0;
-    }
-    parts::count(numbers, f)
-}
+use super::decisions::held;
+use super::decisions::in_masks;
+use super::decisions::revert;
+use accepted::outline::Outline;
+use ledger::CHOOSE;
+use ledger::Event;
+use ledger::STRIKE;
+use ledger::WITHDRAW_CHOICE;
+use ledger::WITHDRAW_STRIKE;
+use limits::EVENTS;
+use limits::FIELDS;
+use limits::MOST_EVENTS;
 
 // Whether a field and a position are on the sheet.
-pub fn on_sheet(numbers: &[u32], field: u32, position: u32) -> bool
-    requires { ⌜ Accepted (now numbers) ⌝ }
-    ensures { λ r. ⌜ r ≡ onSheet (now (numbers .entry)) (choice field position) ⌝ }
+pub fn on_sheet(outline: Outline, field: u32, position: u32) -> bool
+    ensures { λ r. ⌜ Found (outline .full) field position r ⌝ }
 {
-    (position as usize) < room(numbers, field as usize)
+    let full = outline.full;
+    in_masks(full, field, position)
+}
+
+// Whether every position of m is one of the field's.
+fn within(m: u32, all: u32) -> bool
+    ensures { λ r. ⌜ r ≡ eqb (strangers all m) 0 ⌝ }
+{
+    m & !all == 0
 }
 
 // Whether the settings of a set of masks are on the sheet.
-fn masks_on_sheet(numbers: &[u32], masks: [u32; 24]) -> bool
-    requires { ⌜ Accepted (now numbers) ⌝ }
-    ensures { λ r. ⌜ r ≡ masksOnSheet (now (numbers .entry)) masks ⌝ }
+fn masks_on_sheet(outline: Outline, masks: [u32; FIELDS]) -> bool
+    ensures { λ r. ⌜ r ≡ masksOnSheet (outline .full) masks ⌝ }
 {
+    let full = outline.full;
     let mut f: usize = 0;
-    while f < 24 {
-        let d = room(numbers, f);
-        if (1u32 << d) <= masks[f] {
+    while f < FIELDS {
+        if !within(masks[f], full[f]) {
             return false;
         }
         f += 1;
@@ -51,46 +53,59 @@ fn masks_on_sheet(numbers: &[u32], masks: [u32; 24]) -> bool
     true
 }
 
+// Whether an event can be reversed: its decision is on the sheet, and an addition is in force, a withdrawal is not.
+fn can_revert(outline: Outline, d: Decisions, e: Event) -> bool
+    ensures { λ r. ⌜ CanRevert outline d e r ⌝ }
+{
+    let kind = e.kind;
+    if !on_sheet(outline, e.field, e.position) {
+        return false;
+    }
+    match kind {
+        CHOOSE => held(d, false, e.field, e.position),
+        STRIKE => held(d, true, e.field, e.position),
+        WITHDRAW_CHOICE => !held(d, false, e.field, e.position),
+        WITHDRAW_STRIKE => !held(d, true, e.field, e.position),
+        _ => false,
+    }
+}
+
 // Whether the events can be reversed, from the latest on.
-fn events_reversible(numbers: &[u32], start: Decisions, events: [Event; 64], count: u32) -> bool
-    requires { ⌜ Accepted (now numbers) × (count ≤ 64) ⌝ }
-    ensures { λ r. ⌜ r ≡ reversible (now (numbers .entry)) (past events count) (decisionsOf start) ⌝ }
+fn events_reversible(outline: Outline, start: Decisions, events: [Event; EVENTS], count: u32) -> bool
+    requires { ⌜ count ≤ mostEvents ⌝ }
+    ensures { λ r. ⌜ r ≡ reversible outline (past events count) (decisionsOf start) ⌝ }
 {
     let mut d = start;
     let mut k = count as usize;
     while 0 < k {
         k -= 1;
         let e = events[k];
-        if !on_sheet(numbers, e.field, e.position) {
+        if !can_revert(outline, d, e) {
             return false;
         }
-        if !reversible(d, e) {
-            return false;
-        }
-        let before = reverse(d, e);
+        let before = revert(d, e);
         d = before;
     }
     true
 }
 
 // Whether a session is malformed.
-pub fn malformed(numbers: &[u32], session: Session) -> bool
-    requires { ⌜ Accepted (now numbers) ⌝ }
-    ensures { λ r. ⌜ r ≡ illFormed (now (numbers .entry)) (view session) ⌝ }
+pub fn malformed(outline: Outline, session: Session) -> bool
+    ensures { λ r. ⌜ r ≡ malformed outline (view session) ⌝ }
 {
-    let choices = session.choices;
-    let strikes = session.strikes;
+    let d = session.decisions;
+    let choices = d.choices;
+    let strikes = d.strikes;
     let events = session.events;
     let count = session.count;
-    if !masks_on_sheet(numbers, choices) {
+    if !masks_on_sheet(outline, choices) {
         return true;
     }
-    if !masks_on_sheet(numbers, strikes) {
+    if !masks_on_sheet(outline, strikes) {
         return true;
     }
     if MOST_EVENTS < count {
         return true;
     }
-    let d = Decisions { choices, strikes };
-    !events_reversible(numbers, d, events, count)
+    !events_reversible(outline, d, events, count)
 }

@@ -1,21 +1,17 @@
-// The session: what the control room holds between calls. Decisions as masks, the past events and their count; no offers.
-pub mod decisions; // decisions.rt: a decision held, added, withdrawn; an event reversed
+// The session: what the control room holds between calls, whether it is malformed, its start set, and the session after a call.
+pub mod decisions; // decisions.rt: a decision held, added, withdrawn; an event made and reversed
 pub mod form; // form.rt: whether a session is malformed
+pub mod start; // start.rt: the start set
+pub mod steps; // steps.rt: the session after a call
+use decisions::Decisions;
+use ledger::Event;
+use limits::EVENTS;
 
-// An event: 1 and 2 are a choice and a strike added, 3 and 4 a choice and a strike withdrawn.
-#[repr(C)]
-pub struct Event {
-    pub kind: u32,
-    pub field: u32,
-    pub position: u32,
-}
-
-// For each field the masks of the chosen and of the struck positions; events, of which the first `count` have happened, the oldest first.
+// The decisions in force, and events, of which the first `count` have happened, the oldest first. No offers.
 #[repr(C)]
 pub struct Session {
-    pub choices: [u32; 24],
-    pub strikes: [u32; 24],
-    pub events: [Event; 64],
+    pub decisions: Decisions,
+    pub events: [Event; EVENTS],
     pub count: u32,
 }
 

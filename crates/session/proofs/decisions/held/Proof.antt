@@ -1,41 +1,18 @@
-use Rattle.masks.specs.Sets.{has}
 use borrow.Author.Needs.{needs}
 use Rattle.session.proofs.decisions.held.Statement.{statement}
 use Rattle.session.proofs.decisions.held.Tie as tie
 
-mul-has-bit : tie.Need-mul-has-bit
-mul-has-bit c = search needs
-
-element-copy-out-has-bit : tie.Need-element-copy-out-has-bit
-element-copy-out-has-bit c = search needs
-
-has-bit-requires : tie.Need-has-bit-requires
-has-bit-requires c κs = search needs
+in-masks-requires : tie.Need-in-masks-requires
+in-masks-requires c κs = search needs
 
 returns : tie.Need-returns
-returns c = rw (c .before .before .if1 .taken) (unfold has in c .has-bit .ensures)
+returns c = rw (c .before .if1 .taken) (c .in-masks .ensures .is)
 
-mul-has-bit-2 : tie.Need-mul-has-bit-2
-mul-has-bit-2 c = search needs
-
-element-copy-out-has-bit-2 : tie.Need-element-copy-out-has-bit-2
-element-copy-out-has-bit-2 c = search needs
-
-has-bit-requires-2 : tie.Need-has-bit-requires-2
-has-bit-requires-2 c κs = search needs
+in-masks-requires-2 : tie.Need-in-masks-requires-2
+in-masks-requires-2 c κs = search needs
 
 returns-2 : tie.Need-returns-2
-returns-2 c = rw (c .before .before .if1 .left) (unfold has in c .has-bit2 .ensures)
+returns-2 c = rw (c .before .if1 .left) (c .in-masks2 .ensures .is)
 
 pub held-spec : {M : Type 1} → statement M
-held-spec =
-    tie.close
-    (tie.spec
-    mul-has-bit
-    element-copy-out-has-bit
-    has-bit-requires
-    returns
-    mul-has-bit-2
-    element-copy-out-has-bit-2
-    has-bit-requires-2
-    returns-2)
+held-spec = tie.close (tie.spec in-masks-requires returns in-masks-requires-2 returns-2)

@@ -1,41 +1,39 @@
-use mathlib.Core.Path.{_≡_}
-use mathlib.Core.Logic.{⊎-elim}
-use Prim.Native.Nat.{ℕ, _-_, _^_, _≤_, _<_}
-use native.Mathlib.Nat.{eq-or-lt-of-le}
-use lib.ListN.{getD}
-use native.Mathlib.Omega.{arith}
 use borrow.Author.Needs.{needs}
-use Rattle.masks.specs.Words.{one-shl}
-use Rattle.session.specs.Form.{roomOf, masks-off, masks-on}
+use mathlib.Core.Path.{sym, _∙_}
+use borrow.Author.Tests.{eqb-true, eqb-false, not-true, not-false}
+use Prim.Native.Nat.{_-_, _≤_}
+use native.Mathlib.Omega.{arith}
+use Rattle.limits.specs.Limits.{mostFields}
+use Rattle.session.specs.Form.{Inside, inside-next, masks-off, masks-on}
 use Rattle.session.proofs.form.masks_on_sheet.Statement.{statement}
 use Rattle.session.proofs.form.masks_on_sheet.Tie as tie
 
 abbrev Inv-loop : tie.InvT-loop
-Inv-loop numbers masks f₀ f = (f ≤ 24) × ((g : ℕ) → g < f → getD masks g 0 < 2 ^ roomOf numbers g)
+Inv-loop masks full f₀ f = (f ≤ mostFields) × Inside full masks f
 
 abbrev μ-loop : tie.MeasureT-loop
-μ-loop numbers masks f₀ f = 24 - f
+μ-loop masks full f₀ f = mostFields - f
 
 loop-holds : tie.Need-loop-holds Inv-loop μ-loop
 loop-holds c = (search needs, λ g l. absurd (omega arith))
 
-room-requires : tie.Need-room-requires Inv-loop μ-loop
-room-requires c κs = c .before .before .before .pre
+mul-within : tie.Need-mul-within Inv-loop μ-loop
+mul-within c = search needs
 
-cast-if1 : tie.Need-cast-if1 Inv-loop μ-loop
-cast-if1 c = let e = c .room .ensures .1 in search needs
+array-read-within : tie.Need-array-read-within Inv-loop μ-loop
+array-read-within c = search needs
 
-shl-if1 : tie.Need-shl-if1 Inv-loop μ-loop
-shl-if1 c = let e = c .room .ensures .1 in search needs
+mul-within-2 : tie.Need-mul-within-2 Inv-loop μ-loop
+mul-within-2 c = search needs
 
-mul-if1 : tie.Need-mul-if1 Inv-loop μ-loop
-mul-if1 c = search needs
+array-read-within-2 : tie.Need-array-read-within-2 Inv-loop μ-loop
+array-read-within-2 c = search needs
 
-array-read-if1 : tie.Need-array-read-if1 Inv-loop μ-loop
-array-read-if1 c = search needs
+within-requires : tie.Need-within-requires Inv-loop μ-loop
+within-requires c κs = search needs
 
 returns : tie.Need-returns Inv-loop μ-loop
-returns c = masks-off _ _ _ (c .before .before .loop-test .taken) (rw (one-shl 32 (c .before .room .result) (let e = c .before .room .ensures .1 in omega arith), c .before .room .ensures .0) at (c .if1 .taken))
+returns c = masks-off _ _ _ (c .before .before .loop-test .taken) (eqb-false _ 0 (sym (c .before .within .ensures) ∙ not-true _ (c .if1 .taken)))
 
 add-f : tie.Need-add-f Inv-loop μ-loop
 add-f c = search needs
@@ -44,7 +42,9 @@ loop-less : tie.Need-loop-less Inv-loop μ-loop
 loop-less c = search needs
 
 loop-again : tie.Need-loop-again Inv-loop μ-loop
-loop-again c = (search needs, λ g l. ⊎-elim (λ (q : g ≡ c .before .before .before .loop .f). rw q (rw (one-shl 32 (c .before .room .result) (let e = c .before .room .ensures .1 in omega arith), c .before .room .ensures .0) at (c .if1 .left))) (λ q. c .before .before .before .loop .inv .1 g q) (eq-or-lt-of-le (let j : g ≤ c .before .before .before .loop .f = omega arith in j)))
+loop-again c =
+    let a = c .before .before .before .before .before .args in
+    (search needs, inside-next (a .outline .full) (a .t2) _ (c .before .before .before .loop .inv .1) (eqb-true _ 0 (sym (c .before .within .ensures) ∙ not-false _ (c .if1 .left))))
 
 returns-2 : tie.Need-returns-2 Inv-loop μ-loop
 returns-2 c = masks-on _ _ (λ g l. c .before .loop .inv .1 g (search needs))
@@ -56,11 +56,11 @@ masks-on-sheet-spec =
     Inv-loop
     μ-loop
     loop-holds
-    room-requires
-    cast-if1
-    shl-if1
-    mul-if1
-    array-read-if1
+    mul-within
+    array-read-within
+    mul-within-2
+    array-read-within-2
+    within-requires
     returns
     add-f
     loop-less
