@@ -1,2 +1,2 @@
--- What the contracts of `judging` cite.
+-- What the proofs of `judging` cite.
 pub mod Changes

@@ -1,6 +1,6 @@
 // The order in which an engine visits the fields.
 ghost use mathlib.Core.Path.{_≡_};
-ghost use Rattle.ledger.specs.Lists.{occurrences};
+ghost use Rattle.ledger.specs.Occurrences.{occurrences};
 ghost use Rattle.ledger.specs.Ledger.{isOrder};
 
 // How often a field occurs.

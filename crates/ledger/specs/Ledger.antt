@@ -231,10 +231,13 @@ offSheet o (adds d) = not (onSheet o d)
 offSheet o (withdraws d) = not (onSheet o d)
 offSheet o neither = true
 
+abbrev pub settingCauses : Outline → Event → List Cause
+settingCauses o e = because (offSheet o (changeOf e)) UNKNOWN ∷ []
+
 abbrev pub placeCauses : Outline → Call → List Cause
 placeCauses o Open = []
 placeCauses o Show = []
-placeCauses o (Decide e) = because (offSheet o (changeOf e)) UNKNOWN ∷ []
+placeCauses o (Decide e) = settingCauses o e
 placeCauses o Back = []
 placeCauses o CoilOn = []
 
@@ -262,14 +265,17 @@ withdrawnUnheld (adds d) ds = false
 withdrawnUnheld (withdraws d) ds = not (inForce ds d)
 withdrawnUnheld neither ds = false
 
-abbrev pub stepCauses : Call → Ledger → List Cause
-stepCauses Open l = []
-stepCauses Show l = []
-stepCauses (Decide e) l =
+abbrev pub changeCauses : Event → Ledger → List Cause
+changeCauses e l =
     because (addedAgain (changeOf e) (l .decisions)) ADDED-AGAIN
     ∷ because (withdrawnUnheld (changeOf e) (l .decisions)) NOT-IN-FORCE
     ∷ because (eqb (length (l .events)) mostEvents) NO-ROOM
     ∷ []
+
+abbrev pub stepCauses : Call → Ledger → List Cause
+stepCauses Open l = []
+stepCauses Show l = []
+stepCauses (Decide e) l = changeCauses e l
 stepCauses Back l = because (eqb (length (l .events)) 0) NOTHING-PAST ∷ []
 stepCauses CoilOn l = []
 

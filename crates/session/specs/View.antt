@@ -69,6 +69,10 @@ unfolding past
 length-past es zero = refl
 length-past es (suc k) = ap suc (length-past es k)
 
+pub events-counted : (s : Session) (k : ℕ) → eqb (length (view s .events)) k ≡ eqb (s .count) k
+unfolding view
+events-counted s k = ap (λ (n : ℕ). eqb n k) (length-past (s .events) (s .count))
+
 -- the latest of them
 pub past-latest : (es : List Event) (k : ℕ) → 0 < k → past es k ≡ getD es (k - 1) noEvent ∷ past es (k - 1)
 past-latest es zero h = absurd (omega arith)

@@ -4,10 +4,10 @@ use Prim.Native.Nat.{ℕ, _-_, _≤_, _<_}
 use native.Mathlib.Nat.{eq-or-lt-of-le}
 use native.Mathlib.Omega.{arith}
 use borrow.Author.Needs.{needs}
-use Rattle.ledger.specs.Lists.{occurrences}
+use Rattle.ledger.specs.Occurrences.{occurrences}
 use Rattle.ledger.specs.Orders.{order-wrong-length, order-wrong-field, order-right}
-use Rattle.stepping.proofs.order.is_order.Statement.{statement}
-use Rattle.stepping.proofs.order.is_order.Tie as tie
+use Rattle.judging.proofs.order.is_order.Statement.{statement}
+use Rattle.judging.proofs.order.is_order.Tie as tie
 
 abbrev Inv-loop : tie.InvT-loop
 Inv-loop order n f₀ f = (f ≤ n) × ((g : ℕ) → g < f → occurrences g order ≡ 1)

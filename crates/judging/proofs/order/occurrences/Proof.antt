@@ -4,10 +4,10 @@ use lib.ListN.{length, take}
 use lib.Seq.{take-all}
 use native.Mathlib.Omega.{arith}
 use borrow.Author.Needs.{needs}
-use Rattle.ledger.specs.Lists.{occurrences}
+use Rattle.ledger.specs.Occurrences.{occurrences}
 use Rattle.ledger.specs.Orders.{occurs-none, counted, passed}
-use Rattle.stepping.proofs.order.occurrences.Statement.{statement}
-use Rattle.stepping.proofs.order.occurrences.Tie as tie
+use Rattle.judging.proofs.order.occurrences.Statement.{statement}
+use Rattle.judging.proofs.order.occurrences.Tie as tie
 
 abbrev Inv-loop : tie.InvT-loop
 Inv-loop order f times₀ q₀ times q = (q ≤ length order) × (times ≤ q) × (times ≡ occurrences f (take q order))
