@@ -1,5 +1,4 @@
--- The offers under a session's decisions: found on the sheet that stands in the memory, and written over the front of the offers list.
--- Assumes nothing.
+-- The offers under what a session holds: found on a network that is built, and written over the front of the offers list. Assumes nothing.
 use mathlib.Core.Path.{_≡_, refl, sym, ap, ap₂, _∙_, fun-ext}
 use mathlib.Core.Logic.{⊎-elim}
 use mathlib.Core.Bool.{Bool, true, false}
@@ -12,26 +11,32 @@ use lib.ListN.{length, getD, set, take, drop, length-set, length-take, length-dr
 use lib.Pow.{pow-mono}
 use lib.Seq.{getD-set-same, getD-set-other, ext-getD, getD-take, getD-drop, take-at, getD-append-add}
 use borrow.Author.Tests.{ltb-true, ltb-false}
-use Rattle.masks.specs.Tests.{never, bool-cases, someBelow}
-use Rattle.masks.specs.Bits.{bit, bit-of-zero}
-use Rattle.masks.specs.Masks.{maskOf, maskOf-lt}
+use Rattle.limits.specs.Limits.{mostFields, mostSettings, offersWords, rowsWords, memoryWords}
+use Rattle.masks.specs.Tests.{never, bool-cases, and-l, someBelow}
+use Rattle.masks.specs.Bits.{bit, bit-of-zero, lt-of-bits, bit-high, Within, within-le}
+use Rattle.masks.specs.Masks.{maskOf, maskOf-lt, keepBits, bit-keepBits}
 use Rattle.masks.specs.Sets.{has, pad, length-pad, getD-pad}
 use Rattle.masks.specs.Settings.{empty, someEmpty}
 use Rattle.masks.specs.Pick.{pick, pick-true, pick-false}
 use Rattle.consistency.specs.Offers.{offers, offers-is, wipedOut}
 use Rattle.consistency.specs.Padding.{offers-pad}
 use Rattle.sheet.specs.Judge.{Accepted}
+use Rattle.accepted.specs.declared.outline.Outline.{Outline}
+use Rattle.accepted.specs.Lists.{length-tabulate, getD-tabulate}
 use Rattle.accepted.specs.Parts.{fieldsOf, countOf, reachOf}
 use Rattle.accepted.specs.Facts.{facts}
-use Rattle.network.specs.Tables.{bothTables}
+use Rattle.accepted.specs.Outline.{outlineOf, full-at}
+use Rattle.network.specs.declared.build.Network.{Network}
+use Rattle.network.specs.Tables.{forwardOf, turnedOf}
 use Rattle.network.specs.SheetProblem.{sheetProblem}
-use Rattle.visiting.specs.Store.{memoryWords}
-use Rattle.engines.specs.Engine.{IsOrder, Offered}
-use Rattle.offering.specs.Offering.{OfferAsks}
-use Rattle.ledger.specs.Ledger.{Decision, starts, startSet, offersOf, wiped, isOrder}
-use Rattle.ledger.specs.Lists.{length-tabulate, getD-tabulate}
+use Rattle.network.specs.Network.{problemIn, NetworkOf}
+use Rattle.closing.specs.Asks.{Masks}
+use Rattle.engines.specs.Engine.{IsOrder, Engine, Offered}
+use Rattle.engines.specs.EngineAsks.{RunAsks}
+use Rattle.engines.specs.Answers.{run-asks, run-answers}
+use Rattle.ledger.specs.Ledger.{Decision, Ledger, settings, starts, startSet, offersOf, wiped, isOrder}
 use Rattle.ledger.specs.Orders.{order-sized, order-low, order-every}
-use Rattle.session.specs.declared.Session.{Session}
+use Rattle.session.specs.Start.{startMasks, start-padded}
 use Rattle.answering.specs.Answer.{written}
 
 -- ---- masks written one after the other
@@ -75,32 +80,37 @@ module _ (before m : List ℕ) where
           ap (λ (i : ℕ). getD (take k m ++ drop k before) i 0) e ∙ getD-append-add (take k m) (drop k before) (j - k) 0 ∙ getD-drop k before (j - k) 0
           ∙ ap (λ (i : ℕ). getD before i 0) q
 
--- ---- the start set, padded, is what finding the offers asks
+-- ---- the start set, padded, is what an engine asks
 
 module _ (xs : List ℕ) (a : Accepted xs) (ds : List Decision) where
   abbrev S : List ℕ
-  S = startSet xs ds
+  S = startSet (outlineOf xs) ds
 
   abbrev padded : List ℕ
-  padded = pad (24 - fieldsOf xs) S
+  padded = pad (mostFields - fieldsOf xs) S
+
+  abbrev mask : ℕ → ℕ
+  mask f = keepBits (settings (outlineOf xs) f) (starts (outlineOf xs) ds f)
 
   start-sized : length S ≡ fieldsOf xs
-  unfolding startSet
-  start-sized = length-tabulate (fieldsOf xs) (λ f. maskOf (countOf xs f) (starts xs ds f))
+  unfolding startSet outlineOf
+  start-sized = length-tabulate (fieldsOf xs) _
 
-  start-mask : (f : ℕ) → f < fieldsOf xs → getD S f 0 ≡ maskOf (countOf xs f) (starts xs ds f)
+  start-mask : (f : ℕ) → f < fieldsOf xs → getD S f 0 ≡ mask f
   unfolding startSet
-  start-mask f h = getD-tabulate (fieldsOf xs) (λ f. maskOf (countOf xs f) (starts xs ds f)) f h
+  start-mask f h = getD-tabulate (outlineOf xs .fields) mask f (unfold outlineOf in h)
 
   start-past : (f : ℕ) → fieldsOf xs ≤ f → getD S f 0 ≡ 0
   start-past f h = List·getD-eq-default S 0 (let n = start-sized in omega arith)
 
-  start-small : (f : ℕ) → getD padded f 0 < 2 ^ 24
-  start-small f = rw (getD-pad (24 - fieldsOf xs) S f) (⊎-elim
+  start-small : (f : ℕ) → getD padded f 0 < 2 ^ mostSettings
+  start-small f = rw (getD-pad (mostFields - fieldsOf xs) S f) (⊎-elim
       (λ q. let h = ltb-true f (fieldsOf xs) q in
-      let l = maskOf-lt (countOf xs f) (starts xs ds f) in
+      let l = within-le (mask f) (settings (outlineOf xs) f) (λ v b. and-l _ _ (sym (bit-keepBits (settings (outlineOf xs) f) (starts (outlineOf xs) ds f) v) ∙ b)) in
+      let m = full-at xs f h in
+      let k = maskOf-lt (countOf xs f) (λ v. true) in
       let c = facts xs a .count-few f h in
-      let p : 2 ^ countOf xs f ≤ 2 ^ 24 = pow-mono c in
+      let p : 2 ^ countOf xs f ≤ 2 ^ mostSettings = pow-mono c in
       let e = start-mask f h in
       omega arith)
       (λ q. let e = start-past f (ltb-false f (fieldsOf xs) q) in omega arith)
@@ -109,70 +119,106 @@ module _ (xs : List ℕ) (a : Accepted xs) (ds : List Decision) where
   start-on : (f v : ℕ) → has padded f v ≡ true → f < fieldsOf xs
   unfolding has
   start-on f v b = ⊎-elim (λ q. ltb-true f (fieldsOf xs) q)
-      (λ q. absurd (never b (ap (λ (m : ℕ). bit m v) (getD-pad (24 - fieldsOf xs) S f ∙ start-past f (ltb-false f (fieldsOf xs) q)) ∙ bit-of-zero v)))
+      (λ q. absurd (never b (ap (λ (m : ℕ). bit m v) (getD-pad (mostFields - fieldsOf xs) S f ∙ start-past f (ltb-false f (fieldsOf xs) q)) ∙ bit-of-zero v)))
       (bool-cases (ltb f (fieldsOf xs)))
 
   -- an order by its test is what the engines ask of an order
   is-order : (order : List ℕ) → isOrder (fieldsOf xs) order ≡ true → IsOrder (fieldsOf xs) order
   is-order order e = record { sized = order-sized (fieldsOf xs) order e; low = order-low (fieldsOf xs) order e; every = order-every (fieldsOf xs) order e }
 
-  pub offer-asks : (count : ℕ) (order m rows memory : List ℕ) → m ≡ padded → count ≤ length memory → isOrder (fieldsOf xs) order ≡ true → bothTables ≤ length rows → memoryWords ≤ length memory
-      → OfferAsks xs count order m rows memory
-  offer-asks count order m rows memory e h o r l = rw e (record {
-    accepted = a;
-    ends = h;
-    visits = is-order order o;
-    masks = record { long = length-pad (24 - fieldsOf xs) S ∙ (let n = start-sized in let f = facts xs a .fields-few in omega arith); small = start-small };
-    on = start-on;
-    tables = r;
-    room = l;
-  })
-
-  -- ---- what the engine found
-
-  wiped-pad : wipedOut (sheetProblem xs) (reachOf xs) padded ≡ wiped xs ds
-  unfolding wipedOut wiped someEmpty empty
-  wiped-pad = rw (offers-pad (sheetProblem xs) (reachOf xs) (24 - fieldsOf xs) S)
-      (ap (someBelow (sheetProblem xs .fields)) (fun-ext (λ f. ap (λ (m : ℕ). eqb m 0) (getD-pad (24 - fieldsOf xs) (offers (sheetProblem xs) (reachOf xs) S) f))))
-
-  pub offers-sized : length (offersOf xs ds) ≡ fieldsOf xs
-  unfolding offersOf
-  offers-sized = offers-is (sheetProblem xs) (reachOf xs) S .sized ∙ start-sized
-
-  module _ (m R : List ℕ) (e : m ≡ padded) (t : Bool) (o : Offered (sheetProblem xs) (reachOf xs) m t R) where
-    pub found-wiped : t ≡ wiped xs ds
-    found-wiped = (rw e at o) .wipes ∙ wiped-pad
-
-    pub found-offers : t ≡ false → take (fieldsOf xs) R ≡ offersOf xs ds
-    unfolding offersOf pad
-    found-offers z = ap (take (fieldsOf xs)) ((rw e at o) .made z ∙ offers-pad (sheetProblem xs) (reachOf xs) (24 - fieldsOf xs) S)
-        ∙ take-at (offers (sheetProblem xs) (reachOf xs) S) _ (fieldsOf xs) offers-sized
-
--- ---- the outcome
-
--- Where the offers under `ds` have an empty field, 14 and nothing changed; else the next session, and the offers in front of the list.
-pub record Settled (xs : List ℕ) (ds : List Decision) (session next : Session) (before : List ℕ) (k : ℕ) (t : Session) (after : List ℕ) : Type 0 where
-  pub number : k ≡ pick (wiped xs ds) 14 0
-  pub session′ : t ≡ pick (wiped xs ds) session next
-  pub offers : after ≡ pick (wiped xs ds) before (written (offersOf xs ds) before)
-
-module _ (xs : List ℕ) (ds : List Decision) (session next : Session) (before : List ℕ) where
-  pub settled-wiped : true ≡ wiped xs ds → Settled xs ds session next before 14 session before
-  settled-wiped e = record { number = sym (pick-true _ _ _ (sym e)); session′ = sym (pick-true _ _ _ (sym e)); offers = sym (pick-true _ _ _ (sym e)) }
-
-  pub settled-offers : (n : ℕ) (R after : List ℕ) → false ≡ wiped xs ds → n ≡ fieldsOf xs → length (offersOf xs ds) ≡ fieldsOf xs → take (fieldsOf xs) R ≡ offersOf xs ds → after ≡ take n R ++ drop n before
-      → Settled xs ds session next before 0 next after
-  settled-offers n R after e q l f p = record {
-    number = sym (pick-false _ _ _ (sym e));
-    session′ = sym (pick-false _ _ _ (sym e));
-    offers = p ∙ rw q (ap₂ (λ (x : List ℕ) (k : ℕ). x ++ drop k before) f (sym l)) ∙ sym (pick-false _ _ _ (sym e));
+  start-masks : Masks padded
+  start-masks = record {
+    long = length-pad (mostFields - fieldsOf xs) S ∙ (let n = start-sized in let f = facts xs a .fields-few in omega arith);
+    small = start-small;
   }
 
--- what settling asks: an accepted sheet at the front of the memory, an order of its fields, and room enough
-pub record SettleAsks (xs : List ℕ) (count : ℕ) (order offers rows memory : List ℕ) : Type 0 where
+  start-is : startMasks (outlineOf xs) ds ≡ padded
+  start-is = start-padded xs a ds
+
+-- ---- what an engine finds on it
+
+module _ (xs : List ℕ) (a : Accepted xs) (l : Ledger) where
+  abbrev R₀ : List ℕ
+  R₀ = startSet (outlineOf xs) (l .decisions)
+
+  wiped-pad : wipedOut (sheetProblem xs) (reachOf xs) (padded xs a (l .decisions)) ≡ wiped xs l
+  unfolding wipedOut wiped someEmpty empty
+  wiped-pad = rw (offers-pad (sheetProblem xs) (reachOf xs) (mostFields - fieldsOf xs) R₀)
+      (ap (someBelow (sheetProblem xs .fields)) (fun-ext (λ f. ap (λ (m : ℕ). eqb m 0) (getD-pad (mostFields - fieldsOf xs) (offers (sheetProblem xs) (reachOf xs) R₀) f))))
+
+  pub offers-sized : length (offersOf xs l) ≡ fieldsOf xs
+  unfolding offersOf
+  offers-sized = offers-is (sheetProblem xs) (reachOf xs) R₀ .sized ∙ start-sized xs a (l .decisions)
+
+  module _ (m R : List ℕ) (e : m ≡ startMasks (outlineOf xs) (l .decisions)) (t : Bool) (o : Offered (sheetProblem xs) (reachOf xs) m t R) where
+    found : Offered (sheetProblem xs) (reachOf xs) (padded xs a (l .decisions)) t R
+    found = rw (e ∙ start-is xs a (l .decisions)) at o
+
+    pub found-wiped : t ≡ wiped xs l
+    found-wiped = found .wipes ∙ wiped-pad
+
+    pub found-offers : t ≡ false → take (fieldsOf xs) R ≡ offersOf xs l
+    unfolding offersOf pad
+    found-offers z = ap (take (fieldsOf xs)) (found .made z ∙ offers-pad (sheetProblem xs) (reachOf xs) (mostFields - fieldsOf xs) R₀)
+        ∙ take-at (offers (sheetProblem xs) (reachOf xs) R₀) _ (fieldsOf xs) offers-sized
+
+-- ---- settling
+
+-- The outline and the network are those of an accepted sheet with the numbers xs.
+pub record Prepared (xs : List ℕ) (o : Outline) (net : Network) (rows : List ℕ) : Type 0 where
   pub accepted : Accepted xs
-  pub ends : count ≤ length memory
-  pub ordered : isOrder (fieldsOf xs) order ≡ true
-  pub offers-room : 24 ≤ length offers
-  pub rows-room : bothTables ≤ length rows
+  pub outline : o ≡ outlineOf xs
+  pub network : NetworkOf xs net (forwardOf rows) (turnedOf rows)
+
+-- what settling asks: the outline and the network of some sheet, an order of its fields, and room enough
+pub record SettleAsks (o : Outline) (net : Network) (order offers rows memory : List ℕ) : Type 0 where
+  pub sheet : List ℕ
+  pub prepared : Prepared sheet o net rows
+  pub ordered : isOrder (o .fields) order ≡ true
+  pub offers-room : offersWords ≤ length offers
+  pub rows-room : rowsWords ≤ length rows
   pub memory-room : memoryWords ≤ length memory
+
+-- Whether the ledger's offers have an empty field; if not, they stand in front of the list.
+pub record Settled (xs : List ℕ) (l : Ledger) (before : List ℕ) (w : Bool) (after : List ℕ) : Type 0 where
+  pub wipes : w ≡ wiped xs l
+  pub offers : after ≡ pick w before (written (offersOf xs l) before)
+
+-- the same on whatever sheet has that outline and that network
+abbrev pub SettledOn : Outline → Network → (rows : List ℕ) → Ledger → (before : List ℕ) → Bool → (after : List ℕ) → Type 0
+SettledOn o net rows l before w after = (xs : List ℕ) → Prepared xs o net rows → Settled xs l before w after
+
+module _ (o : Outline) (net : Network) (order offers rows memory : List ℕ) (s : SettleAsks o net order offers rows memory) where
+  pub fields-few : o .fields ≤ mostFields
+  fields-few = let p = s .prepared in rw (p .outline) (unfold outlineOf in facts (s .sheet) (p .accepted) .fields-few)
+
+  pub settle-asks : (m : List ℕ) (ds : List Decision) → m ≡ startMasks o ds → RunAsks net (forwardOf rows) (turnedOf rows) order m
+  settle-asks m ds e =
+      let p = s .prepared in
+      let xs = s .sheet in
+      let a = p .accepted in
+      let n : o .fields ≡ fieldsOf xs = rw (p .outline) (unfold outlineOf in refl) in
+      let q : m ≡ pad (mostFields - fieldsOf xs) (startSet (outlineOf xs) ds) = e ∙ rw (p .outline) (start-is xs a ds) in
+      rw q (run-asks xs a net (forwardOf rows) (turnedOf rows) (p .network) order (pad (mostFields - fieldsOf xs) (startSet (outlineOf xs) ds))
+      (is-order xs a ds order (rw n at (s .ordered))) (start-masks xs a ds) (start-on xs a ds))
+
+module _ (xs : List ℕ) (o : Outline) (net : Network) (rows : List ℕ) (p : Prepared xs o net rows) (l : Ledger) (before m R : List ℕ) (w : Bool)
+    (e : m ≡ startMasks o (l .decisions)) (r : Engine (problemIn net (forwardOf rows) (turnedOf rows)) (net .hood) m w R) where
+  start : m ≡ startMasks (outlineOf xs) (l .decisions)
+  start = rw (p .outline) at e
+
+  ran : Offered (sheetProblem xs) (reachOf xs) m w R
+  ran = run-answers xs (p .accepted) net (forwardOf rows) (turnedOf rows) (p .network) m w R r
+
+  pub settled-wiped : w ≡ true → Settled xs l before true before
+  settled-wiped y = record { wipes = sym y ∙ found-wiped xs (p .accepted) l m R start w ran; offers = sym (pick-true _ _ _ refl) }
+
+  pub settled-offers : w ≡ false → (after : List ℕ) → after ≡ take (o .fields) R ++ drop (o .fields) before → Settled xs l before false after
+  settled-offers n after q = record {
+    wipes = sym n ∙ found-wiped xs (p .accepted) l m R start w ran;
+    offers = q ∙ rw k (ap₂ (λ (x : List ℕ) (j : ℕ). x ++ drop j before) (found-offers xs (p .accepted) l m R start w ran n) (sym (offers-sized xs (p .accepted) l)))
+        ∙ sym (pick-false _ _ _ refl);
+  }
+    where
+      k : o .fields ≡ fieldsOf xs
+      k = rw (p .outline) (unfold outlineOf in refl)

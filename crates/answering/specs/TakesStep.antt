@@ -1,90 +1,86 @@
 -- A call that no cause before 14 refuses: its step can be taken, and shows the ledger's step. Assumes nothing.
-use mathlib.Core.Path.{_≡_, refl, sym, _∙_}
-use mathlib.Core.Logic.{⊎-elim}
-use mathlib.Core.Bool.{Bool, true, false, not}
+use mathlib.Core.Path.{_≡_, refl, sym, ap, _∙_}
+use mathlib.Core.Bool.{Bool, true, false, not, _&&_}
 use mathlib.Core.List.{List, _∷_}
 use Prim.Native.Nat.{ℕ, _-_, _≤_, _<_}
 use native.Mathlib.Omega.{arith}
 use lib.Dec.{eqb, ltb}
 use lib.ListN.{length}
-use borrow.Author.Tests.{eqb-false}
-use Rattle.masks.specs.Tests.{never, bool-cases}
+use borrow.Author.Tests.{eqb-false, ltb-true}
+use Rattle.limits.specs.Limits.{mostFields, mostSettings, mostEvents}
+use Rattle.masks.specs.Tests.{never, and-l, and-r}
+use Rattle.masks.specs.Sets.{has}
 use Rattle.sheet.specs.Judge.{Accepted}
+use Rattle.accepted.specs.declared.outline.Outline.{Outline}
+use Rattle.accepted.specs.Parts.{fieldsOf, countOf}
+use Rattle.accepted.specs.Facts.{facts}
+use Rattle.accepted.specs.Outline.{outlineOf, full-has}
+use Rattle.ledger.specs.declared.Event.{Event}
 use Rattle.ledger.specs.declared.Call.{Call}
-use Rattle.ledger.specs.declared.Call.the-variants.{Open, Show, Choose, Strike, WithdrawChoice, WithdrawStrike, Back, CoilOn}
-use Rattle.ledger.specs.Ledger.{choice, changeOf, step, isOpen, onSheet, reversible, illFormed, malformed, offSheet, unknownArgument, noRoom}
-use Rattle.ledger.specs.Laws.{Same}
-use Rattle.ledger.specs.Judging.{Clear, or-right, not-back, well-formed}
+use Rattle.ledger.specs.declared.Call.the-variants.{Open, Show, Decide, Back, CoilOn}
+use Rattle.ledger.specs.Ledger.{Decision, choice, strike, Change, adds, withdraws, neither, changeOf, onSheet, revertible, reversible, malformed, offSheet, step}
+use Rattle.ledger.specs.Kinds.{change-any}
+use Rattle.ledger.specs.Laws.{SameLedger}
+use Rattle.ledger.specs.Judging.{Clear, not-back, well-formed}
 use Rattle.session.specs.declared.Session.{Session}
-use Rattle.session.specs.Decisions.{decisionOf, Long}
-use Rattle.session.specs.Events.{eventBy, past, length-past, past-latest, reverses}
-use Rattle.session.specs.View.{decisionsOf, decisionsIn, view}
-use Rattle.session.specs.Form.{on-low, on-either, event-off, event-stuck}
-use Rattle.stepping.specs.Steps.{stepped, latest, RecordAsks, BackAsks, StepAsks, view-step}
+use Rattle.session.specs.View.{decisionsOf, past, length-past, events-counted, past-latest, view, Sized}
+use Rattle.session.specs.Steps.{stepped, latest, RecordAsks, UndoAsks, StepAsks, view-step}
 
-module _ (xs : List ℕ) (a : Accepted xs) (engine : ℕ) (order : List ℕ) (s : Session) where
-  -- every call but open was judged by 15
-  formed : (c : Call) → isOpen c ≡ false → Clear xs c engine order (view s) → illFormed xs (view s) ≡ false
-  unfolding malformed
-  formed c o v = rw o at (v .formed)
+module _ (xs : List ℕ) (a : Accepted xs) where
+  abbrev o : Outline
+  o = outlineOf xs
 
-  few : illFormed xs (view s) ≡ false → s .count ≤ 64
-  unfolding view
-  few e = let w = well-formed xs (view s) e .1 in let n = length-past (s .events) (s .count) in omega arith
+  -- a setting on the sheet lies within the masks
+  on-low : (f v : ℕ) → has (o .full) f v ≡ true → (f < mostFields) × (v < 32)
+  on-low f v e =
+      let q = sym (full-has xs f v) ∙ e in
+      let h = ltb-true f (fieldsOf xs) (and-l _ _ q) in
+      let k = ltb-true v (countOf xs f) (and-r (ltb f (fieldsOf xs)) _ q) in
+      let n = facts xs a .fields-few in
+      let m = facts xs a .count-few f h in
+      (omega arith, omega arith)
 
-  -- a decision to add or withdraw is within the masks, and there is room for its event
-  record-asks : (c : Call) (t : Bool) (f v : ℕ) → isOpen c ≡ false → Clear xs c engine order (view s)
-      → (offSheet xs (changeOf c) ≡ not (onSheet xs (decisionOf t f v))) → (noRoom (changeOf c) (view s .events) ≡ eqb (length (view s .events)) 64) → RecordAsks f v s
-  unfolding unknownArgument view
-  record-asks c t f v o k q r =
-      let e = not-back _ (sym q ∙ or-right (ltb 3 engine) _ (or-right (eqb engine 0) _ (k .known))) in
-      let l = on-low xs a f v (sym (on-either xs t f v) ∙ e) in
-      let h = few (formed c o k) in
-      let n = length-past (s .events) (s .count) in
-      let z = eqb-false (length (past (s .events) (s .count))) 64 (sym r ∙ k .room) in
-      record { field = l .2; position = let p = l .3 in omega arith; room = let g : ¬ (s .count ≡ 64) = λ y. z (n ∙ y) in omega arith }
+  -- so does that of a change which 7 does not refuse, or which can be reversed
+  placed-low : (e : Event) → offSheet o (changeOf e) ≡ false → (e .field < mostFields) × (e .position < 32)
+  unfolding onSheet
+  placed-low e = change-any (e .kind) (e .field) (e .position) (λ k. offSheet o k ≡ false → (e .field < mostFields) × (e .position < 32))
+      (λ q. on-low _ _ (not-back _ q)) (λ q. on-low _ _ (not-back _ q)) (λ q. on-low _ _ (not-back _ q)) (λ q. on-low _ _ (not-back _ q)) (λ q. absurd (never refl q))
 
-  -- the latest event of a session that is not malformed
-  module _ (e : illFormed xs (view s) ≡ false) (some : 0 < s .count) where
-    rest : reversible xs (eventBy (latest s .kind) (latest s .field) (latest s .position) ∷ past (s .events) (s .count - 1)) (decisionsOf (decisionsIn s)) ≡ true
+  revertible-low : (e : Event) (ds : List Decision) → revertible o (changeOf e) ds ≡ true → (e .field < mostFields) × (e .position < 32)
+  unfolding onSheet
+  revertible-low e ds = change-any (e .kind) (e .field) (e .position) (λ k. revertible o k ds ≡ true → (e .field < mostFields) × (e .position < 32))
+      (λ q. on-low _ _ (and-l _ _ q)) (λ q. on-low _ _ (and-l _ _ q)) (λ q. on-low _ _ (and-l _ _ q)) (λ q. on-low _ _ (and-l _ _ q)) (λ q. absurd (never q refl))
+
+  module _ (engine : ℕ) (order : List ℕ) (s : Session) where
+    few : malformed o (view s) ≡ false → s .count ≤ mostEvents
     unfolding view
-    rest = rw (past-latest (s .events) (s .count) some) at (well-formed xs (view s) e .2)
+    few e = let w = well-formed o (view s) e .1 in let n = length-past (s .events) (s .count) in omega arith
 
-    latest-on : onSheet xs (choice (latest s .field) (latest s .position)) ≡ true
-    latest-on = ⊎-elim (λ q. q) (λ q. absurd (never rest (event-off xs (decisionsIn s) (past (s .events) (s .count - 1)) (latest s .kind) (latest s .field) (latest s .position) q)))
-        (bool-cases (onSheet xs (choice (latest s .field) (latest s .position))))
+    -- a decision to add or withdraw is within the masks, and there is room for its event
+    record-asks : (e : Event) → Clear o (Decide e) engine order (view s) → RecordAsks e s
+    record-asks e v =
+        let l = placed-low e (v .of-place .0) in
+        let h = few (v .of-session .0) in
+        let z = eqb-false (s .count) mostEvents (sym (events-counted s mostEvents) ∙ v .of-step .1 .1 .0) in
+        record { field = l .0; position = l .1; room = omega arith }
 
-    latest-reverses : reverses (decisionsIn s) (latest s) ≡ true
-    latest-reverses = ⊎-elim (λ q. q) (λ q. absurd (never rest (event-stuck xs (decisionsIn s) (past (s .events) (s .count - 1)) (latest s .kind) (latest s .field) (latest s .position) q)))
-        (bool-cases (reverses (decisionsIn s) (latest s)))
+    -- the latest event of a session that is not malformed
+    undo-asks : Clear o Back engine order (view s) → UndoAsks s
+    unfolding view reversible
+    undo-asks v =
+        let z = eqb-false (s .count) 0 (sym (events-counted s 0) ∙ v .of-step .0) in
+        let some : 0 < s .count = omega arith in
+        let rest : (revertible o (changeOf (latest s)) (decisionsOf (s .decisions)) && _) ≡ true = rw (past-latest (s .events) (s .count) some) at (well-formed o (view s) (v .of-session .0) .2) in
+        let l = revertible-low (latest s) (decisionsOf (s .decisions)) (and-l _ _ rest) in
+        record { some = some; few = few (v .of-session .0); field = l .0; position = l .1 }
 
-    back-asks : BackAsks s
-    back-asks = let l = on-low xs a (latest s .field) (latest s .position) latest-on in record {
-      some = some;
-      few = few e;
-      field = l .2;
-      position = let p = l .3 in omega arith;
-    }
+    pub step-asks : (c : Call) → Clear o c engine order (view s) → StepAsks c s
+    step-asks Open v = tt
+    step-asks Show v = tt
+    step-asks (Decide e) v = record-asks e v
+    step-asks Back v = undo-asks v
+    step-asks CoilOn v = tt
 
-  -- back is judged by 13
-  back-some : Clear xs Back engine order (view s) → 0 < s .count
-  unfolding view
-  back-some v = let z = eqb-false (length (past (s .events) (s .count))) 0 (v .some) in
-      let n = length-past (s .events) (s .count) in let g : ¬ (s .count ≡ 0) = λ y. z (n ∙ y) in omega arith
-
-  pub step-asks : (c : Call) → Clear xs c engine order (view s) → StepAsks c s
-  step-asks Open v = tt
-  step-asks Show v = tt
-  step-asks (Choose f u) v = record-asks (Choose f u) false f u refl v refl refl
-  step-asks (Strike f u) v = record-asks (Strike f u) true f u refl v refl refl
-  step-asks (WithdrawChoice f u) v = record-asks (WithdrawChoice f u) false f u refl v refl refl
-  step-asks (WithdrawStrike f u) v = record-asks (WithdrawStrike f u) true f u refl v refl refl
-  step-asks Back v = back-asks (formed Back refl v) (back-some v)
-  step-asks CoilOn v = tt
-
-  back-reverses : (c : Call) → Clear xs c engine order (view s) → c ≡ Back → reverses (decisionsIn s) (latest s) ≡ true
-  back-reverses c v q = let w = rw q at v in latest-reverses (formed Back refl w) (back-some w)
-
-  -- the session after the step shows the ledger's step
-  pub shows-step : (c : Call) → Long (decisionsIn s) → length (s .events) ≡ 64 → Clear xs c engine order (view s) → Same (view (stepped c s)) (step c (view s))
-  shows-step c l n v = view-step s l n c (step-asks c v) (back-reverses c v)
+    -- the session after the step shows the ledger's step
+    pub shows-step : (c : Call) → Sized s → Clear o c engine order (view s) → SameLedger (view (stepped c s)) (step c (view s))
+    shows-step c z v = view-step s z c (step-asks c v)

@@ -1,24 +1,20 @@
 // The answer to any call.
 ghost use mathlib.Core.Path.{_≡_};
-ghost use Rattle.answering.specs.Answer.{Answers};
+ghost use Rattle.answering.specs.Answer.{spaces, Answers};
 ghost use Rattle.answering.specs.Answering.{shortBy};
+use super::intake::take_in;
 use super::settle::settle;
 use judging::judge::judge;
 use ledger::Call;
+use limits::MEMORY_WORDS;
+use limits::OFFERS_WORDS;
+use limits::ROWS_WORDS;
+use limits::refusals::TOO_SHORT;
+use limits::refusals::WIPED_OUT;
+use network::build::build;
 use session::Outcome;
 use session::Session;
-use sheet::reading::read;
-use stepping::steps::step;
-
-// The words that the offers list and the work spaces must have.
-const OFFERS_WORDS: usize = 24;
-
-const ROWS_WORDS: usize = 13248;
-
-const MEMORY_WORDS: usize = 13824;
-
-// The number of a space that is too short.
-const TOO_SHORT: u32 = 6;
+use session::steps::step;
 
 // 6: the offers list or a work space is too short.
 fn too_short(offers: usize, rows: usize, memory: usize) -> bool
@@ -38,7 +34,9 @@ pub fn answer(
     rows: &mut [u32],
     memory: &mut [u32],
 ) -> Outcome
-    ensures { λ r. ⌜ Answers call session (now (sheet .entry)) engine (now (order .entry)) (now (offers .entry)) (now (rows .entry)) (now (memory .entry)) (r .number) (r .session) (now (offers .exit)) (now (rows .exit)) (now (memory .exit)) ⌝ }
+    ensures { λ r. ⌜ Answers call session (now (sheet .entry)) engine (now (order .entry))
+        (spaces (now (offers .entry)) (now (rows .entry)) (now (memory .entry)))
+        (r .number) (r .session) (spaces (now (offers .exit)) (now (rows .exit)) (now (memory .exit))) ⌝ }
 {
     if too_short(offers.len(), rows.len(), memory.len()) {
         return Outcome {
@@ -46,21 +44,32 @@ pub fn answer(
             session,
         };
     }
-    let numbers = read(sheet, memory);
-    if numbers.number != 0 {
+    let taken = take_in(sheet, memory);
+    if taken.number != 0 {
         return Outcome {
-            number: numbers.number,
+            number: taken.number,
             session,
         };
     }
-    let count = numbers.length;
-    let cause = judge(session, call, &memory[..count], engine, order);
+    let outline = taken.outline;
+    let cause = judge(outline, session, call, engine, order);
     if cause != 0 {
         return Outcome {
             number: cause,
             session,
         };
     }
+    let length = taken.length;
+    let net = build(&memory[..length], rows);
     let next = step(session, call);
-    settle(session, next, engine, order, count, offers, rows, memory)
+    if settle(next, outline, net, engine, order, offers, rows, memory) {
+        return Outcome {
+            number: WIPED_OUT,
+            session,
+        };
+    }
+    Outcome {
+        number: 0,
+        session: next,
+    }
 }

@@ -9,6 +9,7 @@ use native.Mathlib.Omega.{arith}
 use lib.Bits.{bitOr}
 use lib.ListN.{length, getD}
 use lib.Pow.{pow-mono}
+use Rattle.limits.specs.Limits.{mostFields, mostSettings}
 use Rattle.masks.specs.Tests.{never, not-so, eq-cases}
 use Rattle.masks.specs.Bits.{bit, bit-bound, Within, within-le}
 use Rattle.masks.specs.Masks.{maskOf-lt}
@@ -23,9 +24,9 @@ use Rattle.closing.specs.Shrunk.{or-within, one-within, Small, small-⊆
 use Rattle.closing.specs.Close.{Ready, Closes}
 use Rattle.closing.specs.Frame.{Live, Removed, cut-ready, cut-full, lose-ready}
 
--- a set of 24 masks of 24 bits
+-- a set: a mask for each field, with a bit for each setting
 pub record Masks (S : List ℕ) : Type 0 where
-  pub long : length S ≡ 24
+  pub long : length S ≡ mostFields
   pub small : Small S
 
 -- closing over W, where only the fields of `changed` may leave a setting without a partner
@@ -56,12 +57,12 @@ module _ (n : ℕ) (joined forward turned : List ℕ) (S : List ℕ) (a : LiveAs
   }
 
   -- a setting of the set is within the tables
-  pub place-bound : (f v : ℕ) → has S f v ≡ true → (f < n) × (f < 24) × (v < 24)
+  pub place-bound : (f v : ℕ) → has S f v ≡ true → (f < n) × (f < mostFields) × (v < mostSettings)
   unfolding problemOf has
   place-bound f v e =
       let l = a .live .on f v e in
       let k = a .wired .few in
-      (l, omega arith, bit-bound 24 (getD S f 0) v (a .masks .small f) e)
+      (l, omega arith, bit-bound mostSettings (getD S f 0) v (a .masks .small f) e)
 
   cut-masks : (f v : ℕ) → Masks (cut S f v)
   cut-masks f v = record { long = length-cut S f v ∙ a .masks .long; small = small-⊆ S (cut S f v) (cut-⊆ S f v) (a .masks .small) }
@@ -122,7 +123,7 @@ module _ (n : ℕ) (joined forward turned : List ℕ) (S : List ℕ) (a : LiveAs
     marks = λ q. or-within (2 ^ f) changed (allFields P) (one-within (allFields P) f (in-allFields P f (a .live .on f v e) .1)) (c .marks q);
   }
 
--- a mask of the problem's fields is below 2 ^ 24
-pub fields-small : (n : ℕ) (joined forward turned : List ℕ) (W : ℕ) → n ≤ 24 → Within W (allFields (problemOf n joined forward turned)) → W < 2 ^ 24
+-- a mask of the problem's fields is small
+pub fields-small : (n : ℕ) (joined forward turned : List ℕ) (W : ℕ) → n ≤ mostFields → Within W (allFields (problemOf n joined forward turned)) → W < 2 ^ mostFields
 unfolding allFields problemOf
 fields-small n joined forward turned W h w = lt-of-le-of-lt (within-le W _ w) (lt-of-lt-of-le (maskOf-lt n _) (pow-mono h))

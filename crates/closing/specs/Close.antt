@@ -9,6 +9,7 @@ use lib.Bits.{bitOr, or-zero-r}
 use lib.Dec.{ltb}
 use lib.ListN.{length}
 use borrow.Author.Tests.{ltb-true, lt-ltb}
+use Rattle.limits.specs.Limits.{mostFields}
 use Rattle.masks.specs.Tests.{never, not-so, eq-cases, and-l, and-r, and-by, _⇒_, ⇒-at, ⇒-by}
 use Rattle.masks.specs.Bits.{bit, bit-of-zero, Within, within-le}
 use Rattle.masks.specs.Words.{clear, clear-within, clear-other, clear-lt}
@@ -153,7 +154,7 @@ module _ (P : Problem) where
           full = λ f i. n f (p .full f i);
         }
 
-        pub closing-less : W < 2 ^ 24 → count (revise W S g) * 16777216 + bitOr (clear left g) changed < count S * 16777216 + left
+        pub closing-less : W < 2 ^ mostFields → count (revise W S g) * 2 ^ mostFields + bitOr (clear left g) changed < count S * 2 ^ mostFields + left
         closing-less w =
             shrunk-measure s left (bitOr (clear left g) changed) (lt-of-le-of-lt (within-le _ W (closing-turn .lefts)) w)
             (λ z. rw (z, or-zero-r) (clear-lt left g b))

@@ -7,13 +7,14 @@ use native.Mathlib.Nat.{lt-of-le-of-lt}
 use native.Mathlib.Omega.{arith}
 use lib.Bits.{bitAnd, bitOr, and-le-r}
 use lib.ListN.{length, getD}
+use Rattle.limits.specs.Limits.{mostFields, tableWords}
 use Rattle.masks.specs.Tests.{not-so, and-l, and-r, and-by, or-l}
 use Rattle.masks.specs.Bits.{bit, Within}
 use Rattle.masks.specs.Words.{bit-and, bit-or, clear, bit-clear}
 use Rattle.masks.specs.Sets.{count}
 use Rattle.masks.specs.Settings.{empty}
 use Rattle.consistency.specs.Problem.{Problem, allFields-bound}
-use Rattle.network.specs.Tables.{tableWords, rowsOf, problemOf}
+use Rattle.network.specs.Tables.{rowsOf, problemOf}
 use Rattle.closing.specs.Shrunk.{Small, small-⊆}
 use Rattle.closing.specs.Union.{unionOf}
 use Rattle.closing.specs.Spread.{Spread}
@@ -52,7 +53,7 @@ module _ (n : ℕ) (joined forward turned : List ℕ) (W changed0 : ℕ) (S0 : L
     keep f = unionOf (rowsOf forward turned g f) (getD S g 0)
 
     -- what `spread` asks
-    pub spread-asks : Masks S × (g < 24) × (near < 2 ^ 24) × (bit near g ≡ false) × (tableWords ≤ length forward) × (tableWords ≤ length turned)
+    pub spread-asks : Masks S × (g < mostFields) × (near < 2 ^ mostFields) × (bit near g ≡ false) × (tableWords ≤ length forward) × (tableWords ≤ length turned)
     spread-asks = (
       record { long = i .shrunk .sized ∙ a .masks .long; small = small },
       (let l = in-W in let m = a .wired .few in omega arith),
@@ -83,7 +84,7 @@ module _ (n : ℕ) (joined forward turned : List ℕ) (W changed0 : ℕ) (S0 : L
         unfolding problemOf
         turn-next = rw is-revised (closing-turn P W S0 left touched S g i b in-W changed (rw is-revised at (s .shrunk refl)) marks (rw is-revised at (s .full refl)))
 
-        pub turn-less : count R * 16777216 + bitOr (clear left g) changed < count S * 16777216 + left
+        pub turn-less : count R * 2 ^ mostFields + bitOr (clear left g) changed < count S * 2 ^ mostFields + left
         unfolding problemOf
         turn-less = rw is-revised (closing-less P W S0 left touched S g i b in-W changed (rw is-revised at (s .shrunk refl)) marks (rw is-revised at (s .full refl))
             (fields-small n joined forward turned W (a .wired .few) (a .fields)))

@@ -6,6 +6,7 @@ use Prim.Native.Nat.{ℕ}
 use native.Mathlib.Omega.{arith}
 use lib.Bits.{bitAnd}
 use lib.ListN.{getD}
+use Rattle.limits.specs.Limits.{mostSettings}
 use Rattle.masks.specs.Tests.{iff-eq, and-l, and-r, and-by, _⇒_}
 use Rattle.masks.specs.Bits.{bit, bit-bound}
 use Rattle.masks.specs.Words.{bit-and}
@@ -41,11 +42,11 @@ module _ (n : ℕ) (joined forward turned : List ℕ) (wired : Wired n joined fo
     unfolding problemOf has
     union-partner f u e j =
         iff-eq _ _
-        (λ b. let x = union-at (rowsOf forward turned g f) (getD S g 0) 24 u b in
+        (λ b. let x = union-at (rowsOf forward turned g f) (getD S g 0) mostSettings u b in
         partner-by P S f u g (x .0, x .1, wired .symmetric .allows f g u (x .0) ∙ and-by _ _ (wired .symmetric .joins g f ∙ j) (x .2)))
         (λ b. let x = partner-at P S f u g b in
-        union-by (rowsOf forward turned g f) (getD S g 0) 24 u (x .0) (let i = bit-bound 24 (getD S f 0) u (small f) e in omega arith)
-        (bit-bound 24 (getD S g 0) (x .0) (small g) (x .1)) (x .1)
+        union-by (rowsOf forward turned g f) (getD S g 0) mostSettings u (x .0) (let i = bit-bound mostSettings (getD S f 0) u (small f) e in omega arith)
+        (bit-bound mostSettings (getD S g 0) (x .0) (small g) (x .1)) (x .1)
         (and-r (bit (getD joined g 0) f) _ (wired .symmetric .allows g f (x .0) u ∙ x .2)))
 
     pub keep-revise : keepNear (bitAnd (getD joined g 0) W) (λ f. unionOf (rowsOf forward turned g f) (getD S g 0)) S ≡ revise P W S g

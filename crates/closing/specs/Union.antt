@@ -10,6 +10,7 @@ use native.Mathlib.Omega.{arith}
 use lib.Bits.{bitAnd, bitOr, and-zero-r, or-zero-r}
 use lib.ListN.{length, getD, set, length-set}
 use lib.Seq.{getD-set-same, getD-set-other}
+use Rattle.limits.specs.Limits.{mostSettings}
 use Rattle.masks.specs.Tests.{never, and-l, and-r, and-by, or-l, or-r, or-at}
 use Rattle.masks.specs.Bits.{bit, bit-of-zero, bit-high}
 use Rattle.masks.specs.Words.{bit-and, bit-or}
@@ -21,7 +22,7 @@ unionBelow zero rows own = 0
 unionBelow (suc w) rows own = bitOr (unionBelow w rows own) (bitAnd (getD rows w 0) (flood own w))
 
 abbrev pub unionOf : List ℕ → ℕ → ℕ
-unionOf rows own = unionBelow 24 rows own
+unionOf rows own = unionBelow mostSettings rows own
 
 module _ (rows : List ℕ) (own : ℕ) where
   pub union-at : (w u : ℕ) → bit (unionBelow w rows own) u ≡ true → (v : ℕ) × (bit own v ≡ true) × (bit (getD rows v 0) u ≡ true)
@@ -47,13 +48,13 @@ module _ (rows : List ℕ) (own : ℕ) where
 
 -- masks starts with the floods of the first k positions of own
 pub record Floods (own k : ℕ) (masks : List ℕ) : Type 0 where
-  pub long : length masks ≡ 24
+  pub long : length masks ≡ mostSettings
   pub each : (v : ℕ) → v < k → getD masks v 0 ≡ flood own v
 
-pub floods-none : (own : ℕ) (masks : List ℕ) → length masks ≡ 24 → Floods own 0 masks
+pub floods-none : (own : ℕ) (masks : List ℕ) → length masks ≡ mostSettings → Floods own 0 masks
 floods-none own masks l = record { long = l; each = λ v h. absurd (omega arith) }
 
-pub floods-next : (own k : ℕ) (masks : List ℕ) → k < 24 → Floods own k masks → Floods own (k + 1) (set masks k (flood own k))
+pub floods-next : (own k : ℕ) (masks : List ℕ) → k < mostSettings → Floods own k masks → Floods own (k + 1) (set masks k (flood own k))
 floods-next own k masks h fl = record {
   long = length-set masks k (flood own k) ∙ fl .long;
   each = λ v l. ⊎-elim
@@ -76,8 +77,8 @@ module _ (rows masks : List ℕ) where
   unfolding maskedBelow
   masked-next w = rw add-one
 
-  module _ (own : ℕ) (fl : Floods own 24 masks) where
-    masked-union : (w : ℕ) → w ≤ 24 → maskedBelow w rows masks ≡ unionBelow w rows own
+  module _ (own : ℕ) (fl : Floods own mostSettings masks) where
+    masked-union : (w : ℕ) → w ≤ mostSettings → maskedBelow w rows masks ≡ unionBelow w rows own
     unfolding maskedBelow unionBelow
     masked-union zero l = refl
     masked-union (suc w) l = rw (masked-union w (omega arith), fl .each w (omega arith))
@@ -91,8 +92,8 @@ module _ (rows masks : List ℕ) where
         none : w ≤ n → bitAnd (getD rows n 0) (flood own n) ≡ 0
         none l = rw (flood-none own n (bit-high w own n h l)) (and-zero-r (getD rows n 0))
 
-    pub masked-all : maskedBelow 24 rows masks ≡ unionOf rows own
-    masked-all = masked-union 24 (omega arith)
+    pub masked-all : maskedBelow mostSettings rows masks ≡ unionOf rows own
+    masked-all = masked-union mostSettings (omega arith)
 
     pub masked-small : own < 256 → maskedBelow 8 rows masks ≡ unionOf rows own
-    masked-small h = masked-union 8 (omega arith) ∙ sym (narrow 8 24 (omega arith) h)
+    masked-small h = masked-union 8 (omega arith) ∙ sym (narrow 8 mostSettings (omega arith) h)

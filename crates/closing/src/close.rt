@@ -4,14 +4,17 @@ ghost use mathlib.Core.Bool.{false};
 ghost use Prim.Native.Nat.{_^_, _≤_, _<_};
 ghost use lib.Bits.{bitAnd};
 ghost use lib.ListN.{length, getD};
+ghost use Rattle.limits.specs.Limits.{mostFields, mostSettings, tableWords};
 ghost use Rattle.masks.specs.Bits.{bit, Within};
-ghost use Rattle.network.specs.Tables.{tableWords, rowsOf, problemOf};
+ghost use Rattle.network.specs.Tables.{rowsOf, problemOf};
 ghost use Rattle.closing.specs.Union.{Floods, unionOf};
 ghost use Rattle.closing.specs.Spread.{Spread};
 ghost use Rattle.closing.specs.Close.{Closes};
 ghost use Rattle.closing.specs.Asks.{CloseAsks, Masks};
 use super::union::floods;
 use super::union::union;
+use limits::FIELDS;
+use limits::SETTINGS;
 use masks::clear_bit;
 use masks::lowest_bit;
 use masks::one_bit;
@@ -29,11 +32,11 @@ fn kept<'a>(
     turned: &'a [u32],
     g: usize,
     f: usize,
-    masks: &[u32; 24],
+    masks: &[u32; SETTINGS],
     own: u32,
     d: u32,
 ) -> u32
-    requires { ⌜ (g < 24) × (f < 24) × (g ≡ f → ⊥) × (tableWords ≤ length (now forward)) × (tableWords ≤ length (now turned)) × Floods own 24 (now masks) ⌝ }
+    requires { ⌜ (g < mostFields) × (f < mostFields) × (g ≡ f → ⊥) × (tableWords ≤ length (now forward)) × (tableWords ≤ length (now turned)) × Floods own mostSettings (now masks) ⌝ }
     ensures { λ r. ⌜ r ≡ bitAnd d (unionOf (rowsOf (now (forward .entry)) (now (turned .entry)) g f) own) ⌝ }
 {
     let rows = row(forward, turned, g, f);
@@ -42,13 +45,13 @@ fn kept<'a>(
 
 // Each field of near keeps what has a partner in g.
 fn spread<'a>(
-    m: &mut [u32; 24],
+    m: &mut [u32; FIELDS],
     g: usize,
     near: u32,
     forward: &'a [u32],
     turned: &'a [u32],
 ) -> Narrowed
-    requires { ⌜ Masks (now m) × (g < 24) × (near < 2 ^ 24) × (bit near g ≡ false) × (tableWords ≤ length (now forward)) × (tableWords ≤ length (now turned)) ⌝ }
+    requires { ⌜ Masks (now m) × (g < mostFields) × (near < 2 ^ mostFields) × (bit near g ≡ false) × (tableWords ≤ length (now forward)) × (tableWords ≤ length (now turned)) ⌝ }
     ensures { λ r. ⌜ Spread near (λ f. unionOf (rowsOf (now (forward .entry)) (now (turned .entry)) g f) (getD (now (m .entry)) g 0)) (now (m .entry)) (r .wiped) (r .changed) (now (m .exit)) ⌝ }
 {
     let own = m[g];
@@ -91,11 +94,11 @@ fn swept(sweep: u32, left: u32) -> u32
 // Closes m over the fields of `within`, where only the fields of `changed` may leave a setting without a partner. The number of fields n is
 // there for the contract, which speaks of the problem of n fields that the tables hold.
 pub fn close<'a>(
-    m: &mut [u32; 24],
+    m: &mut [u32; FIELDS],
     n: usize,
     within: u32,
     changed: u32,
-    joined: &[u32; 24],
+    joined: &[u32; FIELDS],
     forward: &'a [u32],
     turned: &'a [u32],
 ) -> Narrowed

@@ -1,16 +1,18 @@
 -- What the engines ask, and that their parts ask no more. Assumes nothing.
 use mathlib.Core.Path.{_≡_, refl, _∙_}
-use mathlib.Core.Bool.{true, false}
+use mathlib.Core.Bool.{false}
 use mathlib.Core.List.{List}
 use Prim.Native.Nat.{ℕ, _≤_, _<_}
 use native.Mathlib.Omega.{arith}
 use lib.ListN.{length, getD}
-use Rattle.masks.specs.Bits.{bit, Within}
+use Rattle.limits.specs.Limits.{mostFields}
 use Rattle.masks.specs.Settings.{someEmpty}
 use Rattle.consistency.specs.Problem.{Problem, allFields}
+use Rattle.network.specs.declared.build.Network.{Network}
 use Rattle.network.specs.Tables.{problemOf, Wired}
 use Rattle.closing.specs.Shrunk.{small-⊆}
 use Rattle.closing.specs.Asks.{Masks, CloseAsks, LiveAsks, asks-shrunk}
+use Rattle.visiting.specs.Store.{HoodAsks}
 use Rattle.engines.specs.Engine.{IsOrder, Hoods, OnFields, Begun, all-ready, all-full, Kept}
 
 -- a set as it is given: settings of the problem's fields only
@@ -23,6 +25,11 @@ pub record StartAsks (n : ℕ) (joined forward turned : List ℕ) (S : List ℕ)
 pub record Lent (n : ℕ) (joined forward turned : List ℕ) (order hood : List ℕ) : Type 0 where
   pub visits : IsOrder n order
   pub hoods : Hoods (problemOf n joined forward turned) hood
+
+-- What an engine asks of a network, its two tables, an order and a set.
+abbrev pub RunAsks : Network → List ℕ → List ℕ → List ℕ → List ℕ → Type 0
+RunAsks net forward turned order S =
+    StartAsks (net .fields) (net .joined) forward turned S × Lent (net .fields) (net .joined) forward turned order (net .hood)
 
 module _ (n : ℕ) (joined forward turned : List ℕ) where
   abbrev P : Problem
@@ -51,13 +58,13 @@ module _ (n : ℕ) (joined forward turned : List ℕ) where
   kept-asks {S = S} a k = asks-shrunk n joined forward turned S a (k .shrunk) (k .live)
 
   -- what the visit of a field of the order asks
-  module _ (order hood : List ℕ) (l : Lent n joined forward turned order hood) (few : n ≤ 24) (q : ℕ) (h : q < n) where
+  module _ (order hood : List ℕ) (l : Lent n joined forward turned order hood) (few : n ≤ mostFields) (q : ℕ) (h : q < n) where
     abbrev f : ℕ
     f = getD order q 0
 
-    pub order-low : (q < length order) × (getD order q 0 < 24)
+    pub order-low : (q < length order) × (getD order q 0 < mostFields)
     order-low = let a = l .visits .sized in let b = l .visits .low q h in (omega arith, omega arith)
 
-    pub visit-asks : (getD order q 0 < n) × Within (getD hood (getD order q 0) 0) (allFields P) × (bit (getD hood (getD order q 0) 0) (getD order q 0) ≡ true)
+    pub visit-asks : (getD order q 0 < n) × HoodAsks P hood (getD order q 0)
     unfolding problemOf
-    visit-asks = let b = l .visits .low q h in (b, l .hoods .fields f b, l .hoods .self f b)
+    visit-asks = let b = l .visits .low q h in (b, record { fields = l .hoods .fields f b; self = l .hoods .self f b })

@@ -3,3 +3,5 @@ pub mod EngineAsks
 pub mod Pass
 pub mod Queue
 pub mod Answers
+pub mod Offering
+pub mod SheetD

@@ -8,6 +8,7 @@ use native.Mathlib.Nat.{eq-or-lt-of-le, lt-of-le-of-lt}
 use native.Mathlib.Omega.{arith}
 use lib.Bits.{bitOr}
 use lib.ListN.{length, getD}
+use Rattle.limits.specs.Limits.{mostFields}
 use Rattle.masks.specs.Tests.{never, not-so, bool-cases, eq-cases, or-l, or-r}
 use Rattle.masks.specs.Bits.{bit, bit-some, bit-of-zero, Within, within-le}
 use Rattle.masks.specs.Masks.{maskOf, maskOf-bound}
@@ -35,9 +36,9 @@ pub record Back (n : ℕ) (hood : List ℕ) (queue changed r : ℕ) : Type 0 whe
   pub adds : (h g : ℕ) → bit changed h ≡ true → bit (getD hood h 0) g ≡ true → (g ≡ h → ⊥) → bit r g ≡ true
 
 pub record BackAsks (n : ℕ) (hood : List ℕ) (queue changed : ℕ) : Type 0 where
-  pub few : n ≤ 24
+  pub few : n ≤ mostFields
   pub queued : Within queue (allOf n)
-  pub hoods : (h : ℕ) → bit changed h ≡ true → (h < 24) × Within (getD hood h 0) (allOf n)
+  pub hoods : (h : ℕ) → bit changed h ≡ true → (h < mostFields) × Within (getD hood h 0) (allOf n)
 
 -- the changed fields of `left` are still to come
 pub record Backing (n : ℕ) (hood : List ℕ) (queue changed left r : ℕ) : Type 0 where
@@ -75,7 +76,7 @@ module _ (n : ℕ) (hood : List ℕ) (queue changed : ℕ) (a : BackAsks n hood 
   }
 
 -- masks of the problem's fields will do
-pub back-asks : (n : ℕ) (joined forward turned order hood : List ℕ) → n ≤ 24 → Lent n joined forward turned order hood → (queue changed : ℕ)
+pub back-asks : (n : ℕ) (joined forward turned order hood : List ℕ) → n ≤ mostFields → Lent n joined forward turned order hood → (queue changed : ℕ)
     → Within queue (allFields (problemOf n joined forward turned)) → Within changed (allFields (problemOf n joined forward turned)) → BackAsks n hood queue changed
 unfolding allFields problemOf
 back-asks n joined forward turned order hood few l queue changed q c = record {
@@ -200,7 +201,7 @@ module _ (P : Problem) (order hood : List ℕ) where
     pub turning-turn : Turning M next R
     turning-turn = record { kept = (_, kept-then P (t .kept .1) (r .kept refl .1)); small = r .small refl; off = r .off refl (t .off) }
 
-    pub turning-less : allFields P < 2 ^ 24 → (queue ≡ 0 → ⊥) → count R * 16777216 + next < count S * 16777216 + queue
+    pub turning-less : allFields P < 2 ^ mostFields → (queue ≡ 0 → ⊥) → count R * 2 ^ mostFields + next < count S * 2 ^ mostFields + queue
     turning-less a d =
         let b = lt-of-le-of-lt (within-le next (allFields P) (r .small refl)) a in
         ⊎-elim (λ q. omega arith) (λ q. let e = ap count (q .0) in let z = q .1 in omega arith) (r .ends refl)

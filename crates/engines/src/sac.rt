@@ -3,81 +3,70 @@
 ghost use mathlib.Core.Path.{_≡_};
 ghost use Prim.Native.Nat.{_≤_, _<_};
 ghost use lib.ListN.{length, getD};
-ghost use Rattle.network.specs.Tables.{problemOf};
+ghost use Rattle.limits.specs.Limits.{mostFields, memoryWords};
+ghost use Rattle.network.specs.Network.{problemIn};
 ghost use Rattle.closing.specs.Asks.{LiveAsks};
-ghost use Rattle.visiting.specs.Store.{memoryWords, Store};
+ghost use Rattle.visiting.specs.Store.{Store};
 ghost use Rattle.engines.specs.Engine.{Begun, Engine};
-ghost use Rattle.engines.specs.EngineAsks.{StartAsks, Lent};
+ghost use Rattle.engines.specs.EngineAsks.{StartAsks, Lent, RunAsks};
 ghost use Rattle.engines.specs.Pass.{Passed};
 use closing::close::Narrowed;
 use closing::close::close;
+use limits::FIELDS;
 use masks::Domains;
+use network::build::Network;
 use network::hoods::all_fields;
 use visiting::visit::visit;
 
 // How every engine starts: where no field is empty, it closes over every field. Whether the set is wiped out already.
-pub fn begin<'a>(
-    m: &mut [u32; 24],
-    n: usize,
-    joined: &[u32; 24],
-    forward: &'a [u32],
-    turned: &'a [u32],
-) -> bool
-    requires { ⌜ StartAsks n (now joined) (now forward) (now turned) (now m) ⌝ }
-    ensures { λ r. ⌜ Begun (problemOf n (now (joined .entry)) (now (forward .entry)) (now (turned .entry))) (now (m .entry)) r (now (m .exit)) ⌝ }
+pub fn begin<'a>(m: &mut [u32; FIELDS], net: Network, forward: &'a [u32], turned: &'a [u32]) -> bool
+    requires { ⌜ StartAsks (net .fields) (net .joined) (now forward) (now turned) (now m) ⌝ }
+    ensures { λ r. ⌜ Begun (problemIn net (now (forward .entry)) (now (turned .entry))) (now (m .entry)) r (now (m .exit)) ⌝ }
 {
+    let n = net.fields;
     let masks = *m;
     let set = Domains { masks };
     if set.some_empty(n) {
         return true;
     }
     let all = all_fields(n);
-    let r = close(m, n, all, all, joined, forward, turned);
+    let r = close(m, n, all, all, &net.joined, forward, turned);
     r.wiped
 }
 
 // The field at a place of the order.
 pub fn field_at(order: &[u8], q: usize) -> usize
-    requires { ⌜ (q < length (now order)) × (getD (now order) q 0 < 24) ⌝ }
-    ensures { λ r. ⌜ (r ≡ getD (now (order .entry)) q 0) × (r < 24) ⌝ }
+    requires { ⌜ (q < length (now order)) × (getD (now order) q 0 < mostFields) ⌝ }
+    ensures { λ r. ⌜ (r ≡ getD (now (order .entry)) q 0) × (r < mostFields) ⌝ }
 {
     order[q] as usize
 }
 
 // One pass over the fields, in the lent order.
 fn pass<'a>(
-    m: &mut [u32; 24],
-    known: &mut [u32; 24],
+    m: &mut [u32; FIELDS],
+    known: &mut [u32; FIELDS],
     memory: &mut [u32],
     remembers: bool,
-    n: usize,
     order: &[u8],
-    hood: &[u32; 24],
-    joined: &[u32; 24],
+    net: Network,
     forward: &'a [u32],
     turned: &'a [u32],
 ) -> Narrowed
-    requires { ⌜ LiveAsks n (now joined) (now forward) (now turned) (now m) × Store (problemOf n (now joined) (now forward) (now turned)) (now hood) (now known) (now memory) ⌝ }
-    requires { ⌜ Lent n (now joined) (now forward) (now turned) (now order) (now hood) ⌝ }
-    ensures { λ r. ⌜ Passed (problemOf n (now (joined .entry)) (now (forward .entry)) (now (turned .entry))) (now (order .entry)) (now (hood .entry)) (now (m .entry)) (r .wiped) (r .changed) (now (m .exit)) × Store (problemOf n (now (joined .entry)) (now (forward .entry)) (now (turned .entry))) (now (hood .entry)) (now (known .exit)) (now (memory .exit)) ⌝ }
+    requires { ⌜ LiveAsks (net .fields) (net .joined) (now forward) (now turned) (now m)
+        × Store (problemIn net (now forward) (now turned)) (net .hood) (now known) (now memory) ⌝ }
+    requires { ⌜ Lent (net .fields) (net .joined) (now forward) (now turned) (now order) (net .hood) ⌝ }
+    ensures { λ r. ⌜ Passed (problemIn net (now (forward .entry)) (now (turned .entry))) (now (order .entry)) (net .hood)
+        (now (m .entry)) (r .wiped) (r .changed) (now (m .exit))
+        × Store (problemIn net (now (forward .entry)) (now (turned .entry))) (net .hood) (now (known .exit)) (now (memory .exit)) ⌝ }
 {
+    let n = net.fields;
     let mut touched: u32 = 0;
     let mut q: usize = 0;
     while q < n {
         let f = field_at(order, q);
         q += 1;
-        let r = visit(
-            m,
-            known,
-            memory,
-            remembers,
-            n,
-            f,
-            hood,
-            joined,
-            forward,
-            turned,
-        );
+        let r = visit(m, known, memory, remembers, f, net, forward, turned);
         if r.wiped {
             return Narrowed {
                 wiped: true,
@@ -94,34 +83,30 @@ fn pass<'a>(
 
 // Engine 1, and with `remembers` engine 2. Whether the set is wiped out; if not, m becomes its offers.
 pub fn sac<'a>(
-    m: &mut [u32; 24],
+    m: &mut [u32; FIELDS],
     memory: &mut [u32],
     remembers: bool,
-    n: usize,
     order: &[u8],
-    hood: &[u32; 24],
-    joined: &[u32; 24],
+    net: Network,
     forward: &'a [u32],
     turned: &'a [u32],
 ) -> bool
-    requires { ⌜ StartAsks n (now joined) (now forward) (now turned) (now m) × Lent n (now joined) (now forward) (now turned) (now order) (now hood) ⌝ }
+    requires { ⌜ RunAsks net (now forward) (now turned) (now order) (now m) ⌝ }
     requires { ⌜ memoryWords ≤ length (now memory) ⌝ }
-    ensures { λ r. ⌜ Engine (problemOf n (now (joined .entry)) (now (forward .entry)) (now (turned .entry))) (now (hood .entry)) (now (m .entry)) r (now (m .exit)) ⌝ }
+    ensures { λ r. ⌜ Engine (problemIn net (now (forward .entry)) (now (turned .entry))) (net .hood) (now (m .entry)) r (now (m .exit)) ⌝ }
 {
-    if begin(m, n, joined, forward, turned) {
+    if begin(m, net, forward, turned) {
         return true;
     }
-    let mut known = [0u32; 24];
+    let mut known = [0u32; FIELDS];
     loop {
         let r = pass(
             m,
             &mut known,
             memory,
             remembers,
-            n,
             order,
-            hood,
-            joined,
+            net,
             forward,
             turned,
         );

@@ -9,6 +9,7 @@ use lib.Dec.{ltb}
 use lib.ListN.{length, getD, take, drop, List·getD-eq-default, length-take}
 use lib.Seq.{getD-take, getD-drop}
 use borrow.Author.Tests.{ltb-true, ltb-false, lt-ltb, le-ltb}
+use Rattle.limits.specs.Limits.{mostFields, mostSettings, tableWords}
 use Rattle.masks.specs.Tests.{never, not-so, bool-cases, iff-eq, and-l, and-r, and-by, or-l, or-r, or-at, someBelow, someBelow-at, someBelow-by}
 use Rattle.masks.specs.Bits.{bit, bit-of-zero}
 use Rattle.masks.specs.Masks.{maskOf, bit-maskOf}
@@ -17,7 +18,7 @@ use Rattle.accepted.specs.Parts.{fieldsOf, countOf, rulesOf, firstOf, secondOf,
 use Rattle.accepted.specs.Facts.{Facts, facts}
 use Rattle.accepted.specs.Order.{no-pair-twice}
 use Rattle.network.specs.Slots.{slot, slot-bound}
-use Rattle.network.specs.Tables.{tableWords, rowsOf, problemOf, Wired}
+use Rattle.network.specs.Tables.{rowsOf, problemOf, Wired}
 use Rattle.network.specs.SheetProblem.{runs, runs-at, pairs, joins, allowsPair, sheetProblem, sheet-symmetric}
 
 -- row v of rule r in the forward table, and row u in the turned one; 0 past the field's settings
@@ -35,9 +36,9 @@ slotOf xs r = slot (firstOf xs r) (secondOf xs r)
 pub record Holds (xs : List ℕ) (k : ℕ) (joined forward turned : List ℕ) : Type 0 where
   pub forwards : tableWords ≤ length forward
   pub turneds : tableWords ≤ length turned
-  pub marks : length joined ≡ 24
-  pub rows : (r v : ℕ) → r < k → v < 24 → getD forward (slotOf xs r * 24 + v) 0 ≡ rowOf xs r v
-  pub columns : (r u : ℕ) → r < k → u < 24 → getD turned (slotOf xs r * 24 + u) 0 ≡ columnOf xs r u
+  pub marks : length joined ≡ mostFields
+  pub rows : (r v : ℕ) → r < k → v < mostSettings → getD forward (slotOf xs r * mostSettings + v) 0 ≡ rowOf xs r v
+  pub columns : (r u : ℕ) → r < k → u < mostSettings → getD turned (slotOf xs r * mostSettings + u) 0 ≡ columnOf xs r u
   pub masks : (f g : ℕ) → bit (getD joined f 0) g ≡ someBelow k (joins xs f g)
 
 module _ (xs : List ℕ) (a : Accepted xs) where
@@ -45,7 +46,7 @@ module _ (xs : List ℕ) (a : Accepted xs) where
   fs = facts xs a
 
   -- the fields of a rule
-  ends : (r : ℕ) → r < rulesOf xs → (firstOf xs r < secondOf xs r) × (secondOf xs r < fieldsOf xs) × (fieldsOf xs ≤ 24)
+  ends : (r : ℕ) → r < rulesOf xs → (firstOf xs r < secondOf xs r) × (secondOf xs r < fieldsOf xs) × (fieldsOf xs ≤ mostFields)
   ends r h = (fs .apart r h, fs .within r h, fs .fields-few)
 
   join-ends : (f g : ℕ) → someBelow (rulesOf xs) (joins xs f g) ≡ true → (f < fieldsOf xs) × (g < fieldsOf xs) × (f ≡ g → ⊥)
@@ -99,11 +100,11 @@ module _ (xs : List ℕ) (a : Accepted xs) where
 
   module _ (joined forward turned : List ℕ) (t : Holds xs (rulesOf xs) joined forward turned) where
     -- a row as it is read
-    part-at : (table : List ℕ) (s v : ℕ) → s * 24 + 24 ≤ length table → v < 24 → getD (take 24 (drop (s * 24) table)) v 0 ≡ getD table (s * 24 + v) 0
-    part-at table s v h l = getD-take 24 (drop (s * 24) table) v 0 l ∙ getD-drop (s * 24) table v 0
+    part-at : (table : List ℕ) (s v : ℕ) → s * mostSettings + mostSettings ≤ length table → v < mostSettings → getD (take mostSettings (drop (s * mostSettings) table)) v 0 ≡ getD table (s * mostSettings + v) 0
+    part-at table s v h l = getD-take mostSettings (drop (s * mostSettings) table) v 0 l ∙ getD-drop (s * mostSettings) table v 0
 
-    part-past : (table : List ℕ) (s v : ℕ) → 24 ≤ v → getD (take 24 (drop (s * 24) table)) v 0 ≡ 0
-    part-past table s v h = List·getD-eq-default (take 24 (drop (s * 24) table)) 0 (simp (length-take) (omega arith))
+    part-past : (table : List ℕ) (s v : ℕ) → mostSettings ≤ v → getD (take mostSettings (drop (s * mostSettings) table)) v 0 ≡ 0
+    part-past table s v h = List·getD-eq-default (take mostSettings (drop (s * mostSettings) table)) 0 (simp (length-take) (omega arith))
 
     module _ (f g r : ℕ) (h : r < rulesOf xs) (e : runs xs f g r ≡ true) where
       below : f < g
@@ -115,7 +116,7 @@ module _ (xs : List ℕ) (a : Accepted xs) where
       counts : (countOf xs (firstOf xs r) ≡ countOf xs f) × (countOf xs (secondOf xs r) ≡ countOf xs g)
       counts = let x = runs-at xs f g r e in (ap (countOf xs) (x .0), ap (countOf xs) (x .1))
 
-      few : (countOf xs f ≤ 24) × (countOf xs g ≤ 24)
+      few : (countOf xs f ≤ mostSettings) × (countOf xs g ≤ mostSettings)
       few =
           let x = runs-at xs f g r e in
           let n = ends r h in
@@ -129,15 +130,15 @@ module _ (xs : List ℕ) (a : Accepted xs) where
       same-row : (v u : ℕ) → bit (getD (rowsOf forward turned f g) v 0) u ≡ pairs xs f g v u r
       unfolding rowsOf pairs
       same-row v u = rw (lt-ltb f g below) (⊎-elim
-          (λ q. let l = ltb-true v 24 q in
-          ap (λ (m : ℕ). bit m u) (part-at forward (slot f g) v room l ∙ ap (λ (s : ℕ). getD forward (s * 24 + v) 0) (sym slot-is) ∙ t .rows r v h l)
+          (λ q. let l = ltb-true v mostSettings q in
+          ap (λ (m : ℕ). bit m u) (part-at forward (slot f g) v room l ∙ ap (λ (s : ℕ). getD forward (s * mostSettings + v) 0) (sym slot-is) ∙ t .rows r v h l)
           ∙ bit-maskOf (countOf xs (secondOf xs r)) (λ u. ltb v (countOf xs (firstOf xs r)) && ruleAllows xs r v u) u
           ∙ rw (counts .0, counts .1) (turn (ltb u (countOf xs g)) (ltb v (countOf xs f)) (ruleAllows xs r v u)))
-          (λ q. ap (λ (m : ℕ). bit m u) (part-past forward (slot f g) v (ltb-false v 24 q)) ∙ bit-of-zero u
-          ∙ sym (ap (λ (b : Bool). b && (ltb u (countOf xs g) && ruleAllows xs r v u)) (le-ltb v (countOf xs f) (let l = ltb-false v 24 q in let m = few .0 in omega arith))))
-          (bool-cases (ltb v 24)))
+          (λ q. ap (λ (m : ℕ). bit m u) (part-past forward (slot f g) v (ltb-false v mostSettings q)) ∙ bit-of-zero u
+          ∙ sym (ap (λ (b : Bool). b && (ltb u (countOf xs g) && ruleAllows xs r v u)) (le-ltb v (countOf xs f) (let l = ltb-false v mostSettings q in let m = few .0 in omega arith))))
+          (bool-cases (ltb v mostSettings)))
         where
-          room : slot f g * 24 + 24 ≤ length forward
+          room : slot f g * mostSettings + mostSettings ≤ length forward
           room = let s = slot-bound f g below (let n = ends r h in let x = runs-at xs f g r e .1 in let m = n .1 in let k = n .2 in omega arith) in let l = t .forwards in omega arith
 
           turn : (a b c : Bool) → (a && (b && c)) ≡ (b && (a && c))
@@ -149,15 +150,15 @@ module _ (xs : List ℕ) (a : Accepted xs) where
       same-column : (v u : ℕ) → bit (getD (rowsOf forward turned g f) u 0) v ≡ pairs xs f g v u r
       unfolding rowsOf pairs
       same-column v u = rw (le-ltb g f (let b = below in omega arith)) (⊎-elim
-          (λ q. let l = ltb-true u 24 q in
-          ap (λ (m : ℕ). bit m v) (part-at turned (slot f g) u room l ∙ ap (λ (s : ℕ). getD turned (s * 24 + u) 0) (sym slot-is) ∙ t .columns r u h l)
+          (λ q. let l = ltb-true u mostSettings q in
+          ap (λ (m : ℕ). bit m v) (part-at turned (slot f g) u room l ∙ ap (λ (s : ℕ). getD turned (s * mostSettings + u) 0) (sym slot-is) ∙ t .columns r u h l)
           ∙ bit-maskOf (countOf xs (firstOf xs r)) (λ v. ltb u (countOf xs (secondOf xs r)) && ruleAllows xs r v u) v
           ∙ rw (counts .0, counts .1))
-          (λ q. ap (λ (m : ℕ). bit m v) (part-past turned (slot f g) u (ltb-false u 24 q)) ∙ bit-of-zero v
-          ∙ sym (ap (λ (b : Bool). ltb v (countOf xs f) && (b && ruleAllows xs r v u)) (le-ltb u (countOf xs g) (let l = ltb-false u 24 q in let m = few .1 in omega arith)) ∙ and-false (ltb v (countOf xs f))))
-          (bool-cases (ltb u 24)))
+          (λ q. ap (λ (m : ℕ). bit m v) (part-past turned (slot f g) u (ltb-false u mostSettings q)) ∙ bit-of-zero v
+          ∙ sym (ap (λ (b : Bool). ltb v (countOf xs f) && (b && ruleAllows xs r v u)) (le-ltb u (countOf xs g) (let l = ltb-false u mostSettings q in let m = few .1 in omega arith)) ∙ and-false (ltb v (countOf xs f))))
+          (bool-cases (ltb u mostSettings)))
         where
-          room : slot f g * 24 + 24 ≤ length turned
+          room : slot f g * mostSettings + mostSettings ≤ length turned
           room = let s = slot-bound f g below (let n = ends r h in let x = runs-at xs f g r e .1 in let m = n .1 in let k = n .2 in omega arith) in let l = t .turneds in omega arith
 
     same-allowed : (f g v u : ℕ) → (bit (getD joined f 0) g && bit (getD (rowsOf forward turned f g) v 0) u) ≡ someBelow (rulesOf xs) (allowsPair xs f g v u)

@@ -12,6 +12,7 @@ use lib.Dec.{eqb, ltb}
 use lib.ListN.{length, getD, set, replicate, length-set, length-replicate}
 use lib.Seq.{getD-set-same, getD-set-other}
 use borrow.Author.Tests.{eqb-true, eq-eqb, ltb-true, ltb-false}
+use Rattle.limits.specs.Limits.{mostFields, mostSettings, mostRules, rowsWords, tableWords}
 use Rattle.masks.specs.Tests.{not-so, bool-cases, eq-cases, iff-eq, and-by, or-l, or-r, or-at, someBelow}
 use Rattle.masks.specs.Bits.{bit, bit-of-zero}
 use Rattle.masks.specs.Words.{bit-or, bit-one}
@@ -21,7 +22,7 @@ use Rattle.accepted.specs.Parts.{rulesOf, ruleStart, firstOf, secondOf, RuleAt}
 use Rattle.accepted.specs.Facts.{Facts, facts}
 use Rattle.accepted.specs.Order.{no-pair-twice}
 use Rattle.network.specs.Slots.{slot-bound, slot-unique}
-use Rattle.network.specs.Tables.{tableWords, bothTables, forwardOf, turnedOf, tables-room}
+use Rattle.network.specs.Tables.{forwardOf, turnedOf, tables-room}
 use Rattle.network.specs.SheetProblem.{runs, runs-at, joins}
 use Rattle.network.specs.Stored.{Stored}
 use Rattle.network.specs.Built.{rowOf, columnOf, slotOf, Holds}
@@ -36,31 +37,31 @@ withOne joined i j = set joined i (bitOr (getD joined i 0) (2 ^ j))
 abbrev pub joinedWith : List ℕ → ℕ → ℕ → List ℕ
 joinedWith joined i j = withOne (withOne joined i j) j i
 
-pub holds-start : (xs forward turned : List ℕ) → tableWords ≤ length forward → tableWords ≤ length turned → Holds xs 0 (replicate 24 0) forward turned
+pub holds-start : (xs forward turned : List ℕ) → tableWords ≤ length forward → tableWords ≤ length turned → Holds xs 0 (replicate mostFields 0) forward turned
 unfolding someBelow
 holds-start xs forward turned a b = record {
   forwards = a;
   turneds = b;
-  marks = length-replicate {A = ℕ} 24 0;
+  marks = length-replicate {A = ℕ} mostFields 0;
   rows = λ r v l. absurd (omega arith);
   columns = λ r u l. absurd (omega arith);
-  masks = λ f g. ap (λ (m : ℕ). bit m g) (getD-zeros 24 f) ∙ bit-of-zero g;
+  masks = λ f g. ap (λ (m : ℕ). bit m g) (getD-zeros mostFields f) ∙ bit-of-zero g;
 }
 
 module _ (xs : List ℕ) (a : Accepted xs) (r : ℕ) (h : r < rulesOf xs) where
   fs : Facts xs
   fs = facts xs a
 
-  pub rule-bounds : (firstOf xs r < secondOf xs r) × (secondOf xs r < 24) × (slotOf xs r < 276)
+  pub rule-bounds : (firstOf xs r < secondOf xs r) × (secondOf xs r < mostFields) × (slotOf xs r < mostRules)
   rule-bounds =
       let l = fs .apart r h in
       let m = fs .within r h in
       let n = fs .fields-few in
-      let k : secondOf xs r < 24 = omega arith in
+      let k : secondOf xs r < mostFields = omega arith in
       (l, k, slot-bound (firstOf xs r) (secondOf xs r) l k)
 
   -- the slots of earlier rules are others
-  apart : (q v : ℕ) → q < r → v < 24 → (slotOf xs q * 24 + v < slotOf xs r * 24) ⊎ (slotOf xs r * 24 + 24 ≤ slotOf xs q * 24 + v)
+  apart : (q v : ℕ) → q < r → v < mostSettings → (slotOf xs q * mostSettings + v < slotOf xs r * mostSettings) ⊎ (slotOf xs r * mostSettings + mostSettings ≤ slotOf xs q * mostSettings + v)
   apart q v l w = ⊎-elim (λ e. inl (let k = ltb-true (slotOf xs q) (slotOf xs r) e in omega arith))
       (λ e. inr (let k = ltb-false (slotOf xs q) (slotOf xs r) e in let d = differ in omega arith)) (bool-cases (ltb (slotOf xs q) (slotOf xs r)))
     where
@@ -133,15 +134,15 @@ module _ (xs : List ℕ) (a : Accepted xs) (r : ℕ) (h : r < rulesOf xs) where
         (eq-cases f (firstOf xs r)))
         (eq-cases f (secondOf xs r))
 
-    pub holds-next : (forward' turned' : List ℕ) → Stored forward (slotOf xs r * 24) (rowOf xs r) 24 forward' → Stored turned (slotOf xs r * 24) (columnOf xs r) 24 turned'
+    pub holds-next : (forward' turned' : List ℕ) → Stored forward (slotOf xs r * mostSettings) (rowOf xs r) mostSettings forward' → Stored turned (slotOf xs r * mostSettings) (columnOf xs r) mostSettings turned'
         → Holds xs (r + 1) (joinedWith joined (firstOf xs r) (secondOf xs r)) forward' turned'
     holds-next forward' turned' p q = record {
       forwards = let l = t .forwards in let z = p .sized in omega arith;
       turneds = let l = t .turneds in let z = q .sized in omega arith;
       marks = simp length-set (t .marks);
-      rows = λ s v l w. ⊎-elim (λ (e : s ≡ r). rw e (p .here v w)) (λ e. p .there (slotOf xs s * 24 + v) (apart s v e w) ∙ t .rows s v e w)
+      rows = λ s v l w. ⊎-elim (λ (e : s ≡ r). rw e (p .here v w)) (λ e. p .there (slotOf xs s * mostSettings + v) (apart s v e w) ∙ t .rows s v e w)
           (eq-or-lt-of-le (let k : s ≤ r = omega arith in k));
-      columns = λ s u l w. ⊎-elim (λ (e : s ≡ r). rw e (q .here u w)) (λ e. q .there (slotOf xs s * 24 + u) (apart s u e w) ∙ t .columns s u e w)
+      columns = λ s u l w. ⊎-elim (λ (e : s ≡ r). rw e (q .here u w)) (λ e. q .there (slotOf xs s * mostSettings + u) (apart s u e w) ∙ t .columns s u e w)
           (eq-or-lt-of-le (let k : s ≤ r = omega arith in k));
       masks = masks-next;
     }
@@ -153,12 +154,12 @@ pub record Filled (xs rows0 : List ℕ) (r place : ℕ) (joined rows : List ℕ)
   pub accepted : Accepted xs
   pub within : r ≤ rulesOf xs
   pub at : place ≡ ruleStart xs r
-  pub room : bothTables ≤ length rows
+  pub room : rowsWords ≤ length rows
   pub sized : length rows ≡ length rows0
   pub holds : Holds xs r joined (forwardOf rows) (turnedOf rows)
 
 module _ (xs rows0 : List ℕ) where
-  pub filled-start : (place : ℕ) → Accepted xs → bothTables ≤ length rows0 → place ≡ ruleStart xs 0 → Filled xs rows0 0 place (replicate 24 0) rows0
+  pub filled-start : (place : ℕ) → Accepted xs → rowsWords ≤ length rows0 → place ≡ ruleStart xs 0 → Filled xs rows0 0 place (replicate mostFields 0) rows0
   filled-start place a b e = record {
     accepted = a;
     within = omega arith;
@@ -173,7 +174,7 @@ module _ (xs rows0 : List ℕ) where
     rule-at = record { accepted = p .accepted; within = h; at = p .at }
 
     -- its fields have a place among the joined fields
-    pub joined-room : (i j : ℕ) → i ≡ firstOf xs r → j ≡ secondOf xs r → (i < 24) × (j < 24) × (length joined ≡ 24)
+    pub joined-room : (i j : ℕ) → i ≡ firstOf xs r → j ≡ secondOf xs r → (i < mostFields) × (j < mostFields) × (length joined ≡ mostFields)
     joined-room i j a b = let m = rule-bounds xs (p .accepted) r h in let k = m .0 in let l = m .1 in (omega arith, omega arith, p .holds .marks)
 
     pub filled-next : (i j x y next : ℕ) (rows' : List ℕ) → i ≡ firstOf xs r → j ≡ secondOf xs r → x ≡ 2 ^ j → y ≡ 2 ^ i → next ≡ ruleStart xs (r + 1)

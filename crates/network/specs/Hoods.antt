@@ -14,7 +14,7 @@ use Rattle.masks.specs.Bits.{bit, bit-ext, Within}
 use Rattle.masks.specs.Masks.{maskOf}
 use Rattle.masks.specs.Words.{bit-or}
 use Rattle.consistency.specs.Problem.{Problem, allFields}
-use Rattle.limits.specs.Limits.{wholeReach}
+use Rattle.limits.specs.Limits.{mostFields, wholeReach}
 use Rattle.consistency.specs.Neighbourhood.{widen, widen-keeps, widen-adds, widen-at, fieldsWithin, within-bound, within-start, within-next, neighbourhood, neighbourhood-near, neighbourhood-whole}
 
 -- A problem with these joined fields.
@@ -56,8 +56,8 @@ module _ (joined : List ℕ) (m : ℕ) where
 
 -- ---- the neighbourhoods
 
-module _ (n : ℕ) (joined : List ℕ) (few : n ≤ 24) (low : JoinsBelow n joined) (P : Problem) (t : Joins n joined P) where
-  widened : (m wide : ℕ) → ((g : ℕ) → bit m g ≡ true → g < n) → Widening joined m 24 wide → wide ≡ widen P m
+module _ (n : ℕ) (joined : List ℕ) (few : n ≤ mostFields) (low : JoinsBelow n joined) (P : Problem) (t : Joins n joined P) where
+  widened : (m wide : ℕ) → ((g : ℕ) → bit m g ≡ true → g < n) → Widening joined m mostFields wide → wide ≡ widen P m
   widened m wide b p = bit-ext _ _ (λ g. iff-eq _ _
       (λ e. ⊎-elim (λ q. widen-keeps P m g (rw (t .fields) (b g q), q))
       (λ s. widen-adds P m (s .0) g (rw (t .fields) (b (s .0) (s .1)), s .1) (rw (t .fields) (low (s .0) g (s .2) .1)) (t .joins (s .0) g ∙ s .2)) (p .only g e))
@@ -69,7 +69,7 @@ module _ (n : ℕ) (joined : List ℕ) (few : n ≤ 24) (low : JoinsBelow n join
   within-one : (f x : ℕ) → f < n → x ≡ 2 ^ f → x ≡ fieldsWithin P 0 f
   within-one f x h e = e ∙ sym (within-start P f (rw (t .fields) h))
 
-  within-more : (k f m wide : ℕ) → m ≡ fieldsWithin P k f → Widening joined m 24 wide → wide ≡ fieldsWithin P (k + 1) f
+  within-more : (k f m wide : ℕ) → m ≡ fieldsWithin P k f → Widening joined m mostFields wide → wide ≡ fieldsWithin P (k + 1) f
   within-more k f m wide e p = widened m wide (λ g q. within-low k f g (ap (λ (x : ℕ). bit x g) (sym e) ∙ q)) p ∙ ap (widen P) e ∙ sym (within-next P k f)
 
 -- what a function that makes one says, of every problem with these joined fields
@@ -80,10 +80,10 @@ abbrev pub HoodFor : ℕ → List ℕ → ℕ → ℕ → ℕ → Type 0
 HoodFor n joined k f m = (P : Problem) → Joins n joined P → m ≡ neighbourhood P k f
 
 module _ (n : ℕ) (joined : List ℕ) (f : ℕ) where
-  pub hood-start : (x : ℕ) → n ≤ 24 → JoinsBelow n joined → f < n → x ≡ 2 ^ f → WithinFor n joined 0 f x
+  pub hood-start : (x : ℕ) → n ≤ mostFields → JoinsBelow n joined → f < n → x ≡ 2 ^ f → WithinFor n joined 0 f x
   hood-start x few low h e P t = within-one n joined few low P t f x h e
 
-  pub hood-turn : (k m wide : ℕ) → n ≤ 24 → JoinsBelow n joined → Widening joined m 24 wide → WithinFor n joined k f m → WithinFor n joined (k + 1) f wide
+  pub hood-turn : (k m wide : ℕ) → n ≤ mostFields → JoinsBelow n joined → Widening joined m mostFields wide → WithinFor n joined k f m → WithinFor n joined (k + 1) f wide
   hood-turn k m wide few low w a P t = within-more n joined few low P t k f m wide (a P t) w
 
   pub hood-near : (k m : ℕ) → k < wholeReach → WithinFor n joined k f m → HoodFor n joined k f m
@@ -95,14 +95,14 @@ module _ (n : ℕ) (joined : List ℕ) (f : ℕ) where
 
 -- The first i masks of `hood` are the neighbourhoods at reach k.
 pub record HoodsTo (n : ℕ) (joined : List ℕ) (k i : ℕ) (hood : List ℕ) : Type 0 where
-  pub long : length hood ≡ 24
+  pub long : length hood ≡ mostFields
   pub each : (f : ℕ) → f < i → HoodFor n joined k f (getD hood f 0)
 
 module _ (n : ℕ) (joined : List ℕ) (k : ℕ) where
-  pub hoods-start : (hood : List ℕ) → length hood ≡ 24 → HoodsTo n joined k 0 hood
+  pub hoods-start : (hood : List ℕ) → length hood ≡ mostFields → HoodsTo n joined k 0 hood
   hoods-start hood l = record { long = l; each = λ f h. absurd (omega arith) }
 
-  pub hoods-turn : (i : ℕ) (hood : List ℕ) (m : ℕ) → i < 24 → HoodFor n joined k i m → HoodsTo n joined k i hood → HoodsTo n joined k (i + 1) (set hood i m)
+  pub hoods-turn : (i : ℕ) (hood : List ℕ) (m : ℕ) → i < mostFields → HoodFor n joined k i m → HoodsTo n joined k i hood → HoodsTo n joined k (i + 1) (set hood i m)
   hoods-turn i hood m l a p = record {
     long = length-set hood i m ∙ p .long;
     each = λ f h. ⊎-elim

@@ -5,6 +5,7 @@ use mathlib.Core.List.{List}
 use Prim.Native.Nat.{ℕ, _≤_, _<_}
 use native.Mathlib.Omega.{arith}
 use borrow.Author.Tests.{lt-ltb, le-ltb}
+use Rattle.limits.specs.Limits.{mostFields, mostSettings}
 use Rattle.masks.specs.Masks.{maskOf}
 use Rattle.accepted.specs.Parts.{fieldsOf, fieldStart, countOf, firstOf, secondOf, kindOf, numberOf, settingOf, ruleAllows, FieldAt, RuleAt}
 use Rattle.accepted.specs.Kinds.{allows}
@@ -22,7 +23,7 @@ pub record RuleFields (xs : List ℕ) (r place i j atI atJ : ℕ) : Type 0 where
 
 -- the fields of a rule are two fields of the sheet, the lower one first
 pub fields-low : (xs : List ℕ) (r place i j : ℕ) → RuleAt xs r place → i ≡ firstOf xs r → j ≡ secondOf xs r
-    → (i < j) × (j < 24) × (i ≤ fieldsOf xs) × (j ≤ fieldsOf xs)
+    → (i < j) × (j < mostFields) × (i ≤ fieldsOf xs) × (j ≤ fieldsOf xs)
 fields-low xs r place i j a e d =
     let fs = facts xs (a .accepted) in
     let l = fs .apart r (a .within) in
@@ -43,8 +44,8 @@ module _ (xs : List ℕ) (r place i j atI atJ : ℕ) (g : RuleFields xs r place 
   pub field-j : FieldAt xs j atJ
   field-j = record { field = record { accepted = g .rule .accepted; within = rw (g .second) (fs .within r (g .rule .within)) }; at = g .startJ }
 
-  -- the counts are at most 24
-  pub counts-few : (countOf xs i ≤ 24) × (countOf xs j ≤ 24)
+  -- the counts are small
+  pub counts-few : (countOf xs i ≤ mostSettings) × (countOf xs j ≤ mostSettings)
   counts-few = (fs .count-few i (field-i .field .within), fs .count-few j (field-j .field .within))
 
   -- a row past the settings of its field

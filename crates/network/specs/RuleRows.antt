@@ -10,6 +10,7 @@ use lib.Dec.{ltb}
 use lib.ListN.{length, getD, set, replicate, length-set, length-replicate}
 use lib.Seq.{getD-set-same, getD-set-other}
 use borrow.Author.Tests.{lt-ltb, ltb-true, ltb-false, eq-eqb}
+use Rattle.limits.specs.Limits.{mostSettings, mostRules, tableWords}
 use Rattle.masks.specs.Tests.{bool-cases}
 use Rattle.masks.specs.Bits.{bit}
 use Rattle.masks.specs.Masks.{bit-maskOf, maskOf-lt}
@@ -19,23 +20,23 @@ use Rattle.masks.specs.Pick.{pick-true}
 use Rattle.accepted.specs.Parts.{countOf, firstOf, secondOf, kindOf, numberOf, valueOf, ruleAllows}
 use Rattle.accepted.specs.Facts.{facts}
 use Rattle.network.specs.Slots.{slot}
-use Rattle.network.specs.Tables.{tableWords, forwardOf, turnedOf}
+use Rattle.network.specs.Tables.{forwardOf, turnedOf}
 use Rattle.network.specs.Stored.{Stored, wordsOf, wordsOf-at, stored-forward, stored-turned, stored-then, stored-before, stored-cong, table-lengths}
 use Rattle.network.specs.Turned.{Rows, Columns}
 use Rattle.network.specs.Built.{rowOf, columnOf, slotOf}
 use Rattle.network.specs.RuleFields.{RuleFields, counts-few, row-past, row-is}
 
--- The first k of 24 words are the rule's rows, the others 0.
+-- The first k words are the rule's rows, the others 0.
 pub record RowsTo (xs : List ℕ) (r k : ℕ) (w : List ℕ) : Type 0 where
-  pub sized : length w ≡ 24
+  pub sized : length w ≡ mostSettings
   pub done : (v : ℕ) → v < k → getD w v 0 ≡ rowOf xs r v
   pub rest : (v : ℕ) → k ≤ v → getD w v 0 ≡ 0
 
 module _ (xs : List ℕ) (r : ℕ) where
-  pub rows-start : RowsTo xs r 0 (replicate 24 0)
-  rows-start = record { sized = length-replicate {A = ℕ} 24 0; done = λ v l. absurd (omega arith); rest = λ v l. getD-zeros 24 v }
+  pub rows-start : RowsTo xs r 0 (replicate mostSettings 0)
+  rows-start = record { sized = length-replicate {A = ℕ} mostSettings 0; done = λ v l. absurd (omega arith); rest = λ v l. getD-zeros mostSettings v }
 
-  pub rows-next : (k x : ℕ) (w : List ℕ) → k < 24 → x ≡ rowOf xs r k → RowsTo xs r k w → RowsTo xs r (k + 1) (set w k x)
+  pub rows-next : (k x : ℕ) (w : List ℕ) → k < mostSettings → x ≡ rowOf xs r k → RowsTo xs r k w → RowsTo xs r (k + 1) (set w k x)
   rows-next k x w b e p = record {
     sized = length-set w k x ∙ p .sized;
     done = λ v l. ⊎-elim (λ (q : v ≡ k). rw q (getD-set-same w k x 0 (let z = p .sized in omega arith) ∙ e))
@@ -46,8 +47,8 @@ module _ (xs : List ℕ) (r : ℕ) where
 -- A rule's rows, in both tables, and nothing else changed.
 pub record RuleStored (xs : List ℕ) (r : ℕ) (rows rows' : List ℕ) : Type 0 where
   pub sized : length rows' ≡ length rows
-  pub forward : Stored (forwardOf rows) (slotOf xs r * 24) (rowOf xs r) 24 (forwardOf rows')
-  pub turned : Stored (turnedOf rows) (slotOf xs r * 24) (columnOf xs r) 24 (turnedOf rows')
+  pub forward : Stored (forwardOf rows) (slotOf xs r * mostSettings) (rowOf xs r) mostSettings (forwardOf rows')
+  pub turned : Stored (turnedOf rows) (slotOf xs r * mostSettings) (columnOf xs r) mostSettings (turnedOf rows')
 
 module _ (xs : List ℕ) (r place i j atI atJ : ℕ) (g : RuleFields xs r place i j atI atJ) where
   -- a rule of kind 0 has its rows as masks
@@ -73,18 +74,18 @@ module _ (xs : List ℕ) (r place i j atI atJ : ℕ) (g : RuleFields xs r place 
       low = λ v. rw (row-at v, g .second) (maskOf-lt (countOf xs (secondOf xs r)) _);
     }
 
-    column-at : (T : List ℕ) → Columns w (countOf xs i) T → (u : ℕ) → u < 24 → getD T u 0 ≡ columnOf xs r u
+    column-at : (T : List ℕ) → Columns w (countOf xs i) T → (u : ℕ) → u < mostSettings → getD T u 0 ≡ columnOf xs r u
     column-at T c u h = c .at u h ∙ rw (g .first) (mask-cong (countOf xs (firstOf xs r)) _ _ (λ v l.
         ap (λ (x : ℕ). bit x u) (row-at v) ∙ bit-maskOf (countOf xs (secondOf xs r)) (λ u. ltb v (countOf xs (firstOf xs r)) && ruleAllows xs r v u) u
         ∙ rw (lt-ltb v (countOf xs (firstOf xs r)) l)))
 
     -- stored one after the other
-    pub rule-stored : (s : ℕ) (T rows rows1 rows2 : List ℕ) → s ≡ slot i j → s < 276 → Columns w (countOf xs i) T
-        → Stored rows (s * 24) (wordsOf w) 24 rows1 → Stored rows1 (tableWords + s * 24) (wordsOf T) 24 rows2 → RuleStored xs r rows rows2
+    pub rule-stored : (s : ℕ) (T rows rows1 rows2 : List ℕ) → s ≡ slot i j → s < mostRules → Columns w (countOf xs i) T
+        → Stored rows (s * mostSettings) (wordsOf w) mostSettings rows1 → Stored rows1 (tableWords + s * mostSettings) (wordsOf T) mostSettings rows2 → RuleStored xs r rows rows2
     rule-stored s T rows rows1 rows2 e b c p q =
         let z : slotOf xs r ≡ s = sym (rw (g .first, g .second) at e) in
-        let x = stored-forward rows rows1 (s * 24) (wordsOf w) (omega arith) p in
-        let y = stored-turned rows1 rows2 (s * 24) (wordsOf T) q in
+        let x = stored-forward rows rows1 (s * mostSettings) (wordsOf w) (omega arith) p in
+        let y = stored-turned rows1 rows2 (s * mostSettings) (wordsOf T) q in
         let m = table-lengths rows1 rows (p .sized) in
         let n = table-lengths rows2 rows1 (q .sized) in
         record {

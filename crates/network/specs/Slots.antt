@@ -1,9 +1,10 @@
--- The slots of the tables: each pair of different fields has one, 276 in all for 24 fields. Assumes nothing.
+-- The slots of the tables: each pair of different fields has one, so there are as many as rules at most. Assumes nothing.
 use mathlib.Core.Path.{_≡_, refl, ap}
 use Prim.Native.Nat.{ℕ, zero, suc, _+_, _-_, _*_, _/_, _≤_, _<_}
 use native.Mathlib.Nat.{le-refl, mul-suc, suc-mul}
 use native.Mathlib.Decide.{le-ind}
 use native.Mathlib.Omega.{arith}
+use Rattle.limits.specs.Limits.{mostFields, mostRules}
 
 -- 0 + 1 + .. + (j - 1): the slots of the pairs whose higher field is below j
 unfoldable pub triangle : ℕ → ℕ
@@ -23,12 +24,12 @@ slot-next : (i j : ℕ) → i < j → slot i j < triangle (suc j)
 unfolding slot triangle
 slot-next i j h = omega arith
 
-whole : triangle 24 ≡ 276
+whole : triangle mostFields ≡ mostRules
 unfolding triangle
 whole = refl
 
-pub slot-bound : (i j : ℕ) → i < j → j < 24 → slot i j < 276
-slot-bound i j h l = let m = triangle-mono (suc j) 24 l in let n = slot-next i j h in let z = whole in omega arith
+pub slot-bound : (i j : ℕ) → i < j → j < mostFields → slot i j < mostRules
+slot-bound i j h l = let m = triangle-mono (suc j) mostFields l in let n = slot-next i j h in let z = whole in omega arith
 
 -- different pairs have different slots
 pub slot-unique : (i j a b : ℕ) → i < j → a < b → slot i j ≡ slot a b → (i ≡ a) × (j ≡ b)
@@ -44,14 +45,14 @@ slot-unique i j a b h k e =
     same = let p : ¬ (j < b) = λ l. let x = apart i j a b h l in omega arith in let q : ¬ (b < j) = λ l. let x = apart a b i j k l in omega arith in omega arith
 
 -- as code computes it: the product is small, and half of it is the triangle
-pub slot-code : (i j : ℕ) → i < j → j < 24 → (j * (j - 1) ≤ 552) × (j * (j - 1) / 2 + i ≡ slot i j)
+pub slot-code : (i j : ℕ) → i < j → j < mostFields → (j * (j - 1) ≤ 2 * mostRules) × (j * (j - 1) / 2 + i ≡ slot i j)
 unfolding slot
 slot-code i zero h l = absurd (omega arith)
 slot-code i (suc j) h l =
     let e : suc j - 1 ≡ j = omega arith in
     let t = twice j in
     let b = slot-bound i (suc j) h l in
-    let m = triangle-mono (suc j) 24 (omega arith) in
+    let m = triangle-mono (suc j) mostFields (omega arith) in
     let z = whole in
     rw e (omega arith, omega arith)
   where

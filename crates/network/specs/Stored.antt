@@ -1,4 +1,4 @@
--- A run of 24 words stored in a list of words. Assumes nothing.
+-- A word for each setting, stored in a list of words. Assumes nothing.
 use mathlib.Core.Path.{_≡_, refl, sym, ap, _∙_}
 use mathlib.Core.Logic.{_⊎_, inl, inr, ⊎-elim}
 use mathlib.Core.List.{List}
@@ -9,8 +9,9 @@ use lib.Dec.{ltb}
 use lib.ListN.{length, getD, set, take, length-set, length-take, length-drop, List·getD-eq-default}
 use lib.Seq.{getD-set-same, getD-set-other, getD-take, getD-drop}
 use borrow.Author.Tests.{ltb-true, ltb-false}
+use Rattle.limits.specs.Limits.{mostSettings, tableWords}
 use Rattle.masks.specs.Tests.{bool-cases}
-use Rattle.network.specs.Tables.{tableWords, forwardOf, turnedOf}
+use Rattle.network.specs.Tables.{forwardOf, turnedOf}
 
 -- the words of a list, by their places
 unfoldable pub wordsOf : List ℕ → ℕ → ℕ
@@ -20,17 +21,17 @@ pub wordsOf-at : (w : List ℕ) (h : ℕ) → wordsOf w h ≡ getD w h 0
 unfolding wordsOf
 wordsOf-at w h = refl
 
--- The first i words of w stand from `base` on, and nothing changed outside the 24 places there.
+-- The first i words of w stand from `base` on, and nothing changed outside the places there.
 pub record Stored (T0 : List ℕ) (base : ℕ) (w : ℕ → ℕ) (i : ℕ) (T : List ℕ) : Type 0 where
   pub sized : length T ≡ length T0
   pub here : (h : ℕ) → h < i → getD T (base + h) 0 ≡ w h
-  pub there : (j : ℕ) → ((j < base) ⊎ (base + 24 ≤ j)) → getD T j 0 ≡ getD T0 j 0
+  pub there : (j : ℕ) → ((j < base) ⊎ (base + mostSettings ≤ j)) → getD T j 0 ≡ getD T0 j 0
 
 module _ (T0 : List ℕ) (base : ℕ) (w : ℕ → ℕ) where
   pub stored-start : Stored T0 base w 0 T0
   stored-start = record { sized = refl; here = λ h l. absurd (omega arith); there = λ j e. refl }
 
-  pub stored-turn : (i : ℕ) (T : List ℕ) (x : ℕ) → i < 24 → base + i < length T → x ≡ w i → Stored T0 base w i T → Stored T0 base w (i + 1) (set T (base + i) x)
+  pub stored-turn : (i : ℕ) (T : List ℕ) (x : ℕ) → i < mostSettings → base + i < length T → x ≡ w i → Stored T0 base w i T → Stored T0 base w (i + 1) (set T (base + i) x)
   stored-turn i T x b l e p = record {
     sized = length-set T (base + i) x ∙ p .sized;
     here = λ h k. ⊎-elim
@@ -63,7 +64,7 @@ module _ (R0 R : List ℕ) (base : ℕ) (w : ℕ → ℕ) where
       (λ q. let l = ltb-false j tableWords q in past R j l ∙ sym (past R0 j l)) (bool-cases (ltb j tableWords))
 
   -- what is stored in the forward table, and leaves the turned one
-  pub stored-forward : base + 24 ≤ tableWords → Stored R0 base w 24 R → Stored (forwardOf R0) base w 24 (forwardOf R) × ((j : ℕ) → getD (turnedOf R) j 0 ≡ getD (turnedOf R0) j 0)
+  pub stored-forward : base + mostSettings ≤ tableWords → Stored R0 base w mostSettings R → Stored (forwardOf R0) base w mostSettings (forwardOf R) × ((j : ℕ) → getD (turnedOf R) j 0 ≡ getD (turnedOf R0) j 0)
   stored-forward b p = (
     record {
       sized = table-lengths R R0 (p .sized) .0;
@@ -74,7 +75,7 @@ module _ (R0 R : List ℕ) (base : ℕ) (w : ℕ → ℕ) where
   )
 
   -- and the other way round
-  pub stored-turned : Stored R0 (tableWords + base) w 24 R → Stored (turnedOf R0) base w 24 (turnedOf R) × ((j : ℕ) → getD (forwardOf R) j 0 ≡ getD (forwardOf R0) j 0)
+  pub stored-turned : Stored R0 (tableWords + base) w mostSettings R → Stored (turnedOf R0) base w mostSettings (turnedOf R) × ((j : ℕ) → getD (forwardOf R) j 0 ≡ getD (forwardOf R0) j 0)
   stored-turned p = (
     record {
       sized = table-lengths R R0 (p .sized) .1;
@@ -85,12 +86,12 @@ module _ (R0 R : List ℕ) (base : ℕ) (w : ℕ → ℕ) where
   )
 
 -- Where the rest of the words is given the other way round, what was stored stays stored.
-pub stored-then : (T0 T T' : List ℕ) (base : ℕ) (w : ℕ → ℕ) → Stored T0 base w 24 T → length T' ≡ length T → ((j : ℕ) → getD T' j 0 ≡ getD T j 0) → Stored T0 base w 24 T'
+pub stored-then : (T0 T T' : List ℕ) (base : ℕ) (w : ℕ → ℕ) → Stored T0 base w mostSettings T → length T' ≡ length T → ((j : ℕ) → getD T' j 0 ≡ getD T j 0) → Stored T0 base w mostSettings T'
 stored-then T0 T T' base w p l e = record { sized = l ∙ p .sized; here = λ h k. e (base + h) ∙ p .here h k; there = λ j o. e j ∙ p .there j o }
 
-pub stored-before : (T0 T T' : List ℕ) (base : ℕ) (w : ℕ → ℕ) → Stored T base w 24 T' → length T ≡ length T0 → ((j : ℕ) → getD T j 0 ≡ getD T0 j 0) → Stored T0 base w 24 T'
+pub stored-before : (T0 T T' : List ℕ) (base : ℕ) (w : ℕ → ℕ) → Stored T base w mostSettings T' → length T ≡ length T0 → ((j : ℕ) → getD T j 0 ≡ getD T0 j 0) → Stored T0 base w mostSettings T'
 stored-before T0 T T' base w p l e = record { sized = p .sized ∙ l; here = p .here; there = λ j o. p .there j o ∙ e j }
 
 -- words that are the same
-pub stored-cong : {T0 T : List ℕ} {base : ℕ} {w w' : ℕ → ℕ} → ((h : ℕ) → h < 24 → w h ≡ w' h) → Stored T0 base w 24 T → Stored T0 base w' 24 T
+pub stored-cong : {T0 T : List ℕ} {base : ℕ} {w w' : ℕ → ℕ} → ((h : ℕ) → h < mostSettings → w h ≡ w' h) → Stored T0 base w mostSettings T → Stored T0 base w' mostSettings T
 stored-cong e p = record { sized = p .sized; here = λ h l. p .here h l ∙ e h l; there = p .there }

@@ -11,6 +11,7 @@ use lib.ListN.{length, getD, set, replicate, length-set, length-replicate}
 use lib.Seq.{getD-set-same, getD-set-other}
 use lib.Dec.{ltb}
 use borrow.Author.Tests.{ltb-true, ltb-false}
+use Rattle.limits.specs.Limits.{mostSettings}
 use Rattle.masks.specs.Tests.{bool-cases}
 use Rattle.masks.specs.Bits.{bit, bit-of-zero, bit-high}
 use Rattle.masks.specs.Masks.{maskOf, digit}
@@ -22,7 +23,7 @@ use Rattle.masks.specs.Sets.{getD-zeros}
 abbrev pub withWhere : ℕ → Bool → ℕ → ℕ
 withWhere x t v = bitOr x (digit t * 2 ^ v)
 
--- Position v has been added to the first u of 24 rows, where the row has their position.
+-- Position v has been added to the first u rows, where the row has their position.
 pub record Turning (row v : ℕ) (T0 : List ℕ) (u : ℕ) (T : List ℕ) : Type 0 where
   pub sized : length T ≡ length T0
   pub done : (h : ℕ) → h < u → getD T h 0 ≡ withWhere (getD T0 h 0) (bit row h) v
@@ -44,28 +45,28 @@ module _ (row v : ℕ) (T0 : List ℕ) where
 
 -- The turned rows of the first n rows.
 pub record Columns (rows : List ℕ) (n : ℕ) (T : List ℕ) : Type 0 where
-  pub sized : length T ≡ 24
-  pub at : (u : ℕ) → u < 24 → getD T u 0 ≡ maskOf n (λ v. bit (getD rows v 0) u)
+  pub sized : length T ≡ mostSettings
+  pub at : (u : ℕ) → u < mostSettings → getD T u 0 ≡ maskOf n (λ v. bit (getD rows v 0) u)
 
 -- Of a square with a side, the first k rows have been turned.
 pub record Square (rows : List ℕ) (side k : ℕ) (T : List ℕ) : Type 0 where
-  pub sized : length T ≡ 24
+  pub sized : length T ≡ mostSettings
   pub at : (u : ℕ) → u < side → getD T u 0 ≡ maskOf k (λ v. bit (getD rows v 0) u)
   pub past : (u : ℕ) → side ≤ u → getD T u 0 ≡ 0
 
 -- Rows of a rule: none past the first n, and no position past the first w.
 pub record Rows (rows : List ℕ) (n w : ℕ) : Type 0 where
-  pub few : n ≤ 24
-  pub narrow : w ≤ 24
+  pub few : n ≤ mostSettings
+  pub narrow : w ≤ mostSettings
   pub past : (v : ℕ) → n ≤ v → getD rows v 0 ≡ 0
   pub low : (v : ℕ) → getD rows v 0 < 2 ^ w
 
 module _ (rows : List ℕ) where
-  pub square-start : (side : ℕ) → Square rows side 0 (replicate 24 0)
+  pub square-start : (side : ℕ) → Square rows side 0 (replicate mostSettings 0)
   square-start side = record {
-    sized = length-replicate {A = ℕ} 24 0;
-    at = λ u l. getD-zeros 24 u ∙ sym (mask-none (λ v. bit (getD rows v 0) u));
-    past = λ u l. getD-zeros 24 u;
+    sized = length-replicate {A = ℕ} mostSettings 0;
+    at = λ u l. getD-zeros mostSettings u ∙ sym (mask-none (λ v. bit (getD rows v 0) u));
+    past = λ u l. getD-zeros mostSettings u;
   }
 
   pub square-next : (side k row : ℕ) (T T' : List ℕ) → row ≡ getD rows k 0 → Square rows side k T → Turning row k T side T' → Square rows side (k + 1) T'

@@ -2,9 +2,10 @@
 ghost use mathlib.Core.Path.{_≡_};
 ghost use Prim.Native.Nat.{_<_, _≤_};
 ghost use lib.ListN.{length};
+ghost use Rattle.limits.specs.Limits.{rowsWords};
 ghost use Rattle.sheet.specs.Judge.{Accepted};
 ghost use Rattle.accepted.specs.Parts.{countOf, rulesOf, firstOf, secondOf, RuleAt};
-ghost use Rattle.network.specs.Tables.{bothTables, forwardOf, turnedOf};
+ghost use Rattle.network.specs.Tables.{forwardOf, turnedOf};
 ghost use Rattle.network.specs.Built.{rowOf, Holds};
 ghost use Rattle.network.specs.RuleFields.{RuleFields};
 ghost use Rattle.network.specs.RuleRows.{RowsTo, RuleStored};
@@ -13,10 +14,10 @@ use super::rows::store;
 use super::turn::turn;
 use accepted::kinds::allowed;
 use accepted::parts;
+use limits::FIELDS;
+use limits::SETTINGS;
+use limits::TABLE_WORDS;
 use masks::one_bit;
-
-// The words of one table: the turned one starts after the forward one.
-const TABLE_WORDS: usize = 6624;
 
 // Row v of rule r: the positions of j that the rule allows beside position v of i. A rule of kind 0 has it as a mask.
 fn row_of_rule(
@@ -62,11 +63,11 @@ fn rows_of_rule(
     at_i: usize,
     at_j: usize,
     n: usize,
-) -> [u32; 24]
+) -> [u32; SETTINGS]
     requires { ⌜ RuleFields (now numbers) r place i j «at_i» «at_j» × (n ≡ countOf (now numbers) i) ⌝ }
     ensures { λ rows. ⌜ RowsTo (now (numbers .entry)) r n rows ⌝ }
 {
-    let mut rows = [0u32; 24];
+    let mut rows = [0u32; SETTINGS];
     let mut v: usize = 0;
     while v < n {
         rows[v] = row_of_rule(numbers, r, place, i, j, at_i, at_j, v);
@@ -77,7 +78,7 @@ fn rows_of_rule(
 
 // Fills the rows of rule r, whose fields are i and j, in both tables.
 fn fill_rule(numbers: &[u32], r: usize, place: usize, i: usize, j: usize, rows: &mut [u32])
-    requires { ⌜ RuleAt (now numbers) r place × (i ≡ firstOf (now numbers) r) × (j ≡ secondOf (now numbers) r) × (bothTables ≤ length (now rows)) ⌝ }
+    requires { ⌜ RuleAt (now numbers) r place × (i ≡ firstOf (now numbers) r) × (j ≡ secondOf (now numbers) r) × (rowsWords ≤ length (now rows)) ⌝ }
     ensures { λ _. ⌜ RuleStored (now (numbers .entry)) r (now (rows .entry)) (now (rows .exit)) ⌝ }
 {
     let at_i = parts::field_start(numbers, i);
@@ -86,17 +87,17 @@ fn fill_rule(numbers: &[u32], r: usize, place: usize, i: usize, j: usize, rows: 
     let wide = parts::count_at(numbers, j, at_j);
     let forward = rows_of_rule(numbers, r, place, i, j, at_i, at_j, n);
     let turned = turn(&forward, n, wide);
-    let base = slot(i, j) * 24;
+    let base = slot(i, j) * SETTINGS;
     store(rows, base, &forward);
     store(rows, TABLE_WORDS + base, &turned);
 }
 
 // Fills both tables with the rules of a sheet; for each field the mask of the fields that a rule joins to it.
-pub fn fill(numbers: &[u32], rows: &mut [u32]) -> [u32; 24]
-    requires { ⌜ Accepted (now numbers) × (bothTables ≤ length (now rows)) ⌝ }
+pub fn fill(numbers: &[u32], rows: &mut [u32]) -> [u32; FIELDS]
+    requires { ⌜ Accepted (now numbers) × (rowsWords ≤ length (now rows)) ⌝ }
     ensures { λ joined. ⌜ Holds (now (numbers .entry)) (rulesOf (now (numbers .entry))) joined (forwardOf (now (rows .exit))) (turnedOf (now (rows .exit))) ⌝ }
 {
-    let mut joined = [0u32; 24];
+    let mut joined = [0u32; FIELDS];
     let n = parts::rules(numbers);
     let mut place = parts::rules_start(numbers);
     let mut r: usize = 0;

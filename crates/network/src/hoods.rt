@@ -2,26 +2,29 @@
 ghost use mathlib.Core.Path.{_≡_};
 ghost use mathlib.Core.Bool.{true};
 ghost use Prim.Native.Nat.{_≤_, _<_};
+ghost use Rattle.limits.specs.Limits.{mostFields};
 ghost use Rattle.masks.specs.Masks.{maskOf};
 ghost use Rattle.network.specs.Hoods.{JoinsBelow, Widening, HoodFor, HoodsTo};
+use limits::FIELDS;
+use limits::WHOLE_REACH;
 use masks::has_bit;
 use masks::one_bit;
 
 // The mask of the first n fields.
 pub fn all_fields(n: usize) -> u32
-    requires { ⌜ n ≤ 24 ⌝ }
+    requires { ⌜ n ≤ mostFields ⌝ }
     ensures { λ r. ⌜ r ≡ maskOf n (λ g. true) ⌝ }
 {
     (1u32 << n) - 1
 }
 
 // The fields of m and those that a rule joins to one of them.
-fn widen(joined: &[u32; 24], m: u32) -> u32
-    ensures { λ r. ⌜ Widening (now (joined .entry)) m 24 r ⌝ }
+fn widen(joined: &[u32; FIELDS], m: u32) -> u32
+    ensures { λ r. ⌜ Widening (now (joined .entry)) m mostFields r ⌝ }
 {
     let mut wide = m;
     let mut h: usize = 0;
-    while h < 24 {
+    while h < FIELDS {
         let g = h;
         h += 1;
         if has_bit(m, g) {
@@ -32,11 +35,11 @@ fn widen(joined: &[u32; 24], m: u32) -> u32
 }
 
 // The neighbourhood of field f.
-fn neighbourhood(n: usize, joined: &[u32; 24], reach: u32, f: usize) -> u32
-    requires { ⌜ (n ≤ 24) × (f < n) × JoinsBelow n (now joined) ⌝ }
+fn neighbourhood(n: usize, joined: &[u32; FIELDS], reach: u32, f: usize) -> u32
+    requires { ⌜ (n ≤ mostFields) × (f < n) × JoinsBelow n (now joined) ⌝ }
     ensures { λ r. ⌜ HoodFor n (now (joined .entry)) reach f r ⌝ }
 {
-    if 24 <= reach {
+    if WHOLE_REACH <= reach {
         return all_fields(n);
     }
     let mut m = one_bit(f);
@@ -49,11 +52,11 @@ fn neighbourhood(n: usize, joined: &[u32; 24], reach: u32, f: usize) -> u32
 }
 
 // The neighbourhoods of the first n fields.
-pub fn neighbourhoods(n: usize, joined: &[u32; 24], reach: u32) -> [u32; 24]
-    requires { ⌜ (n ≤ 24) × JoinsBelow n (now joined) ⌝ }
+pub fn neighbourhoods(n: usize, joined: &[u32; FIELDS], reach: u32) -> [u32; FIELDS]
+    requires { ⌜ (n ≤ mostFields) × JoinsBelow n (now joined) ⌝ }
     ensures { λ hood. ⌜ HoodsTo n (now (joined .entry)) reach n hood ⌝ }
 {
-    let mut hood = [0u32; 24];
+    let mut hood = [0u32; FIELDS];
     let mut f: usize = 0;
     while f < n {
         hood[f] = neighbourhood(n, joined, reach, f);

@@ -14,37 +14,34 @@ use lib.ListN.{length, getD, set, take, drop, length-set, length-take, length-dr
 use lib.Pow.{pow-lt}
 use lib.Seq.{getD-set-same, getD-set-other, getD-take, getD-drop, ext-getD}
 use borrow.Author.Tests.{eqb-true, ltb-true, ltb-false}
+use Rattle.limits.specs.Limits.{mostFields, mostSettings, memoryWords}
 use Rattle.masks.specs.Tests.{never, bool-cases, eq-cases, and-by, or-at}
 use Rattle.masks.specs.Bits.{bit, bit-of-zero, bit-bound, Within}
 use Rattle.masks.specs.Words.{bit-or, bit-one, bit-and-not}
 use Rattle.masks.specs.Sets.{has, _⊆_, getD-zeros}
 use Rattle.masks.specs.Settings.{cut-at, cut-by}
-use Rattle.consistency.specs.Problem.{Problem}
+use Rattle.consistency.specs.Problem.{Problem, allFields}
 use Rattle.consistency.specs.Closing.{Closed}
 use Rattle.consistency.specs.Offers.{NoneEmpty, left, passesOver, passesOver-at, passesOver-by, witness-at, witness-by}
 use Rattle.network.specs.Stored.{Stored, wordsOf, wordsOf-at}
 use Rattle.closing.specs.Shrunk.{zero-or}
 use Rattle.closing.specs.Asks.{Masks}
 
--- the words of the memory: 24 masks for each of 576 settings
-abbrev pub memoryWords : ℕ
-memoryWords = 13824
-
--- where the masks of position u of field g are
+-- where the masks of position u of field g are: the memory has a mask for each field, for each setting of each field
 abbrev pub placeOf : ℕ → ℕ → ℕ
-placeOf g u = (g * 24 + u) * 24
+placeOf g u = (g * mostSettings + u) * mostFields
 
 -- the masks at a place
 unfoldable pub recall : List ℕ → ℕ → List ℕ
-recall M base = take 24 (drop base M)
+recall M base = take mostFields (drop base M)
 
-recall-length : (M : List ℕ) (base : ℕ) → base + 24 ≤ length M → length (recall M base) ≡ 24
+recall-length : (M : List ℕ) (base : ℕ) → base + mostFields ≤ length M → length (recall M base) ≡ mostFields
 unfolding recall
 recall-length M base h = simp (length-take, length-drop) (omega arith)
 
-recall-at : (M : List ℕ) (base h : ℕ) → h < 24 → getD (recall M base) h 0 ≡ getD M (base + h) 0
+recall-at : (M : List ℕ) (base h : ℕ) → h < mostFields → getD (recall M base) h 0 ≡ getD M (base + h) 0
 unfolding recall
-recall-at M base h l = getD-take 24 (drop base M) h 0 l ∙ getD-drop base M h 0
+recall-at M base h l = getD-take mostFields (drop base M) h 0 l ∙ getD-drop base M h 0
 
 -- ---- whether the set holds all that is remembered
 
@@ -62,8 +59,8 @@ module _ (M : List ℕ) (base : ℕ) (S : List ℕ) where
   unfolding lackBelow
   lack-next i = rw add-one
 
-  module _ (words : (h : ℕ) → h < 24 → getD M (base + h) 0 < 2 ^ 32) (small : (h : ℕ) → getD S h 0 < 2 ^ 24) where
-    lack-within : (i : ℕ) → i ≤ 24 → lackBelow i M base S ≡ 0 → (h : ℕ) → h < i → Within (getD M (base + h) 0) (getD S h 0)
+  module _ (words : (h : ℕ) → h < mostFields → getD M (base + h) 0 < 2 ^ 32) (small : (h : ℕ) → getD S h 0 < 2 ^ mostSettings) where
+    lack-within : (i : ℕ) → i ≤ mostFields → lackBelow i M base S ≡ 0 → (h : ℕ) → h < i → Within (getD M (base + h) 0) (getD S h 0)
     unfolding lackBelow
     lack-within zero k z h l = absurd (omega arith)
     lack-within (suc i) k z h l =
@@ -75,27 +72,27 @@ module _ (M : List ℕ) (base : ℕ) (S : List ℕ) where
             (bit-and-not 32 (getD M (base + i) 0) (getD S i 0) v (words i k) (let m = small i in omega arith) ∙ and-by _ _ b (ap not q))
             (ap (λ (x : ℕ). bit x v) e ∙ bit-of-zero v))) (bool-cases (bit (getD S i 0) v))
 
-    pub lack-inside : base + 24 ≤ length M → lackBelow 24 M base S ≡ 0 → recall M base ⊆ S
+    pub lack-inside : base + mostFields ≤ length M → lackBelow mostFields M base S ≡ 0 → recall M base ⊆ S
     unfolding has
     lack-inside k z h v e = ⊎-elim
-        (λ q. let l = ltb-true h 24 q in lack-within 24 (omega arith) z h l v (sym (ap (λ (x : ℕ). bit x v) (recall-at M base h l)) ∙ e))
-        (λ q. absurd (never e (ap (λ (x : ℕ). bit x v) (List·getD-eq-default (recall M base) 0 (let l = ltb-false h 24 q in let n = recall-length M base k in omega arith)) ∙ bit-of-zero v)))
-        (bool-cases (ltb h 24))
+        (λ q. let l = ltb-true h mostFields q in lack-within mostFields (omega arith) z h l v (sym (ap (λ (x : ℕ). bit x v) (recall-at M base h l)) ∙ e))
+        (λ q. absurd (never e (ap (λ (x : ℕ). bit x v) (List·getD-eq-default (recall M base) 0 (let l = ltb-false h mostFields q in let n = recall-length M base k in omega arith)) ∙ bit-of-zero v)))
+        (bool-cases (ltb h mostFields))
 
 -- ---- masks stored at a place
 
 module _ (M0 : List ℕ) (base : ℕ) (t : List ℕ) where
-  module _ (M : List ℕ) (s : Stored M0 base (wordsOf t) 24 M) where
-    pub recall-same : base + 24 ≤ length M0 → length t ≡ 24 → recall M base ≡ t
+  module _ (M : List ℕ) (s : Stored M0 base (wordsOf t) mostFields M) where
+    pub recall-same : base + mostFields ≤ length M0 → length t ≡ mostFields → recall M base ≡ t
     recall-same k l =
         let n = recall-length M base (let z = s .sized in omega arith) in
-        ext-getD 0 (recall M base) t (n ∙ sym l) (λ h i. let j : h < 24 = rw n at i in recall-at M base h j ∙ s .here h j ∙ wordsOf-at t h)
+        ext-getD 0 (recall M base) t (n ∙ sym l) (λ h i. let j : h < mostFields = rw n at i in recall-at M base h j ∙ s .here h j ∙ wordsOf-at t h)
 
-    pub recall-other : (a : ℕ) → a + 24 ≤ length M0 → ((a + 24 ≤ base) ⊎ (base + 24 ≤ a)) → recall M a ≡ recall M0 a
+    pub recall-other : (a : ℕ) → a + mostFields ≤ length M0 → ((a + mostFields ≤ base) ⊎ (base + mostFields ≤ a)) → recall M a ≡ recall M0 a
     recall-other a k d =
         let n = recall-length M a (let z = s .sized in omega arith) in
         ext-getD 0 (recall M a) (recall M0 a) (n ∙ sym (recall-length M0 a k))
-        (λ h i. let j : h < 24 = rw n at i in recall-at M a h j ∙ s .there (a + h) (⊎-elim (λ q. inl (omega arith)) (λ q. inr (omega arith)) d) ∙ sym (recall-at M0 a h j))
+        (λ h i. let j : h < mostFields = rw n at i in recall-at M a h j ∙ s .there (a + h) (⊎-elim (λ q. inl (omega arith)) (λ q. inr (omega arith)) d) ∙ sym (recall-at M0 a h j))
 
 -- ---- what the memory shows
 
@@ -120,6 +117,11 @@ module _ (P : Problem) where
       let w = witness-at P W S f v (passesOver-at P W S f v e) in
       record { own = λ y h. cut-at S f v y (w .inside f y h); shut = w .shut; full = w .full }
 
+  -- the neighbourhood of f: fields of the problem, and f is one of them
+  pub record HoodAsks (hood : List ℕ) (f : ℕ) : Type 0 where
+    pub fields : Within (getD hood f 0) (allFields P)
+    pub self : bit (getD hood f 0) f ≡ true
+
   -- The memory: for each known setting, masks that show that it passes over its field's neighbourhood.
   pub record Store (hood known M : List ℕ) : Type 0 where
     pub long : memoryWords ≤ length M
@@ -127,27 +129,27 @@ module _ (P : Problem) where
     pub shows : (g u : ℕ) → has known g u ≡ true → Shows (getD hood g 0) g u (recall M (placeOf g u))
 
   -- nothing is known
-  pub store-start : (hood M : List ℕ) → memoryWords ≤ length M → Store hood (replicate 24 0) M
+  pub store-start : (hood M : List ℕ) → memoryWords ≤ length M → Store hood (replicate mostFields 0) M
   unfolding has
   store-start hood M l = record {
     long = l;
-    masks = record { long = length-replicate {A = ℕ} 24 0; small = λ f. rw (getD-zeros 24 f) (omega arith) };
-    shows = λ g u e. absurd (never e (ap (λ (x : ℕ). bit x u) (getD-zeros 24 g) ∙ bit-of-zero u));
+    masks = record { long = length-replicate {A = ℕ} mostFields 0; small = λ f. rw (getD-zeros mostFields f) (omega arith) };
+    shows = λ g u e. absurd (never e (ap (λ (x : ℕ). bit x u) (getD-zeros mostFields g) ∙ bit-of-zero u));
   }
 
-  module _ (hood known M : List ℕ) (st : Store hood known M) (f v : ℕ) (lf : f < 24) (lv : v < 24) where
-    pub memory-bound : placeOf f v + 24 ≤ length M
+  module _ (hood known M : List ℕ) (st : Store hood known M) (f v : ℕ) (lf : f < mostFields) (lv : v < mostSettings) where
+    pub memory-bound : placeOf f v + mostFields ≤ length M
     memory-bound = let l = st .long in omega arith
 
     -- one setting more is known
-    pub store-add : (t : List ℕ) → length t ≡ 24 → Shows (getD hood f 0) f v t → (M' : List ℕ) → Stored M (placeOf f v) (wordsOf t) 24 M'
+    pub store-add : (t : List ℕ) → length t ≡ mostFields → Shows (getD hood f 0) f v t → (M' : List ℕ) → Stored M (placeOf f v) (wordsOf t) mostFields M'
         → Store hood (set known f (bitOr (getD known f 0) (2 ^ v))) M'
     unfolding has
     store-add t lt sh M' s = record {
       long = let l = st .long in let z = s .sized in omega arith;
       masks = record {
         long = length-set known f _ ∙ st .masks .long;
-        small = λ g. ⊎-elim (λ (q : g ≡ f). rw (q, getD-set-same known f (bitOr (getD known f 0) (2 ^ v)) 0 fl) (or-lt 24 (getD known f 0) (2 ^ v) (st .masks .small f) (pow-lt lv)))
+        small = λ g. ⊎-elim (λ (q : g ≡ f). rw (q, getD-set-same known f (bitOr (getD known f 0) (2 ^ v)) 0 fl) (or-lt mostSettings (getD known f 0) (2 ^ v) (st .masks .small f) (pow-lt lv)))
             (λ q. rw (getD-set-other known f g (bitOr (getD known f 0) (2 ^ v)) 0 q) (st .masks .small g)) (eq-cases g f);
       };
       shows = λ g u e. ⊎-elim (λ (q : g ≡ f). ⊎-elim (λ (r : u ≡ v). rw (q, r) here) (λ r. other g u (old g u e (λ _ y. r y)) (λ _ y. r y)) (eq-cases u v))
@@ -169,21 +171,21 @@ module _ (P : Problem) where
 
         other : (g u : ℕ) → has known g u ≡ true → (g ≡ f → u ≡ v → ⊥) → Shows (getD hood g 0) g u (recall M' (placeOf g u))
         other g u e d =
-            let lu = bit-bound 24 (getD known g 0) u (st .masks .small g) e in
+            let lu = bit-bound mostSettings (getD known g 0) u (st .masks .small g) e in
             let lg = field g u e in
             rw (recall-other M (placeOf f v) t M' s (placeOf g u) (let l = st .long in omega arith) (apart g u lu d)) (st .shows g u e)
           where
-            apart : (g u : ℕ) → u < 24 → (g ≡ f → u ≡ v → ⊥) → (placeOf g u + 24 ≤ placeOf f v) ⊎ (placeOf f v + 24 ≤ placeOf g u)
-            apart g u lu d = ⊎-elim (λ q. inl (let l = ltb-true (g * 24 + u) (f * 24 + v) q in omega arith))
-                (λ q. let l = ltb-false (g * 24 + u) (f * 24 + v) q in ⊎-elim (λ r. inr (let k = ltb-true (f * 24 + v) (g * 24 + u) r in omega arith))
-                (λ r. let k = ltb-false (f * 24 + v) (g * 24 + u) r in absurd (d (omega arith) (omega arith))) (bool-cases (ltb (f * 24 + v) (g * 24 + u))))
-                (bool-cases (ltb (g * 24 + u) (f * 24 + v)))
+            apart : (g u : ℕ) → u < mostSettings → (g ≡ f → u ≡ v → ⊥) → (placeOf g u + mostFields ≤ placeOf f v) ⊎ (placeOf f v + mostFields ≤ placeOf g u)
+            apart g u lu d = ⊎-elim (λ q. inl (let l = ltb-true (g * mostSettings + u) (f * mostSettings + v) q in omega arith))
+                (λ q. let l = ltb-false (g * mostSettings + u) (f * mostSettings + v) q in ⊎-elim (λ r. inr (let k = ltb-true (f * mostSettings + v) (g * mostSettings + u) r in omega arith))
+                (λ r. let k = ltb-false (f * mostSettings + v) (g * mostSettings + u) r in absurd (d (omega arith) (omega arith))) (bool-cases (ltb (f * mostSettings + v) (g * mostSettings + u))))
+                (bool-cases (ltb (g * mostSettings + u) (f * mostSettings + v)))
 
-            -- a known setting is of one of 24 fields
-            field : (g u : ℕ) → bit (getD known g 0) u ≡ true → g < 24
-            field g u e = ⊎-elim (λ q. ltb-true g 24 q)
-                (λ q. absurd (never e (ap (λ (x : ℕ). bit x u) (List·getD-eq-default known 0 (let l = ltb-false g 24 q in let n = st .masks .long in omega arith)) ∙ bit-of-zero u)))
-                (bool-cases (ltb g 24))
+            -- a known setting is of one of the fields
+            field : (g u : ℕ) → bit (getD known g 0) u ≡ true → g < mostFields
+            field g u e = ⊎-elim (λ q. ltb-true g mostFields q)
+                (λ q. absurd (never e (ap (λ (x : ℕ). bit x u) (List·getD-eq-default known 0 (let l = ltb-false g mostFields q in let n = st .masks .long in omega arith)) ∙ bit-of-zero u)))
+                (bool-cases (ltb g mostFields))
 
   -- ---- the test with the memory
 

@@ -1,37 +1,37 @@
 // The visit of a field.
-ghost use mathlib.Core.Path.{_≡_};
-ghost use mathlib.Core.Bool.{true};
 ghost use Prim.Native.Nat.{_<_};
 ghost use lib.ListN.{getD};
-ghost use Rattle.masks.specs.Bits.{bit, Within};
-ghost use Rattle.consistency.specs.Problem.{allFields};
-ghost use Rattle.network.specs.Tables.{problemOf};
+ghost use Rattle.network.specs.Network.{problemIn};
 ghost use Rattle.closing.specs.Asks.{LiveAsks};
-ghost use Rattle.visiting.specs.Store.{Store};
+ghost use Rattle.visiting.specs.Store.{HoodAsks, Store};
 ghost use Rattle.visiting.specs.Visit.{Visited};
 use super::store::check;
 use closing::close::Narrowed;
 use closing::test::remove;
+use limits::FIELDS;
 use masks::clear_bit;
 use masks::lowest_bit;
+use network::build::Network;
 
 // Tests each setting of f over f's neighbourhood, and removes those that fail.
 pub fn visit<'a>(
-    m: &mut [u32; 24],
-    known: &mut [u32; 24],
+    m: &mut [u32; FIELDS],
+    known: &mut [u32; FIELDS],
     memory: &mut [u32],
     remembers: bool,
-    n: usize,
     f: usize,
-    hood: &[u32; 24],
-    joined: &[u32; 24],
+    net: Network,
     forward: &'a [u32],
     turned: &'a [u32],
 ) -> Narrowed
-    requires { ⌜ LiveAsks n (now joined) (now forward) (now turned) (now m) × Store (problemOf n (now joined) (now forward) (now turned)) (now hood) (now known) (now memory) ⌝ }
-    requires { ⌜ (f < n) × Within (getD (now hood) f 0) (allFields (problemOf n (now joined) (now forward) (now turned))) × (bit (getD (now hood) f 0) f ≡ true) ⌝ }
-    ensures { λ r. ⌜ Visited (problemOf n (now (joined .entry)) (now (forward .entry)) (now (turned .entry))) (getD (now (hood .entry)) f 0) f (now (m .entry)) (r .wiped) (r .changed) (now (m .exit)) × Store (problemOf n (now (joined .entry)) (now (forward .entry)) (now (turned .entry))) (now (hood .entry)) (now (known .exit)) (now (memory .exit)) ⌝ }
+    requires { ⌜ LiveAsks (net .fields) (net .joined) (now forward) (now turned) (now m)
+        × Store (problemIn net (now forward) (now turned)) (net .hood) (now known) (now memory) ⌝ }
+    requires { ⌜ (f < net .fields) × HoodAsks (problemIn net (now forward) (now turned)) (net .hood) f ⌝ }
+    ensures { λ r. ⌜ Visited (problemIn net (now (forward .entry)) (now (turned .entry))) (getD (net .hood) f 0) f
+        (now (m .entry)) (r .wiped) (r .changed) (now (m .exit))
+        × Store (problemIn net (now (forward .entry)) (now (turned .entry))) (net .hood) (now (known .exit)) (now (memory .exit)) ⌝ }
 {
+    let n = net.fields;
     let mut touched: u32 = 0;
     let mut left = m[f];
     while left != 0 {
@@ -42,15 +42,15 @@ pub fn visit<'a>(
             known,
             memory,
             remembers,
-            n,
             f,
             v,
-            hood,
-            joined,
+            n,
+            &net.hood,
+            &net.joined,
             forward,
             turned,
         ) {
-            let r = remove(m, n, f, v, joined, forward, turned);
+            let r = remove(m, n, f, v, &net.joined, forward, turned);
             if r.wiped {
                 return Narrowed {
                     wiped: true,

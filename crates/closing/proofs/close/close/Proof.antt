@@ -1,6 +1,7 @@
 -- `close` revises the fields that a changed field meets, until no field is changed.
-use Prim.Native.Nat.{_+_, _*_}
+use Prim.Native.Nat.{_+_, _*_, _^_}
 use borrow.Author.Needs.{needs}
+use Rattle.limits.specs.Limits.{mostFields}
 use Rattle.masks.specs.Bits.{Within}
 use Rattle.masks.specs.Sets.{count}
 use Rattle.network.specs.Tables.{problemOf}
@@ -14,7 +15,7 @@ Inv-loop m₀ n within changed joined forward turned left₀ sweep₀ touched₀
     Closing (problemOf n joined forward turned) within m₀ left touched m × Within sweep left
 
 abbrev μ-loop : tie.MeasureT-loop
-μ-loop m₀ n within changed joined forward turned left₀ sweep₀ touched₀ m left sweep touched = count m * 16777216 + left
+μ-loop m₀ n within changed joined forward turned left₀ sweep₀ touched₀ m left sweep touched = count m * 2 ^ mostFields + left
 
 loop-holds : tie.Need-loop-holds Inv-loop μ-loop
 loop-holds c = let a = c .before .before .pre in (closing-start _ _ _ _ (a .part) (a .ready) (a .full), λ v e. e)

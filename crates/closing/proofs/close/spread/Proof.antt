@@ -3,6 +3,7 @@ use mathlib.Core.Path.{_≡_, sym, ap, _∙_}
 use native.Mathlib.Omega.{arith}
 use borrow.Author.Needs.{needs}
 use lib.ListN.{length, length-set}
+use Rattle.limits.specs.Limits.{mostFields}
 use Rattle.masks.specs.Tests.{never}
 use Rattle.masks.specs.Bits.{bit, bit-bound}
 use Rattle.masks.specs.Words.{clear-lt}
@@ -13,7 +14,7 @@ use Rattle.closing.proofs.close.spread.Statement.{statement}
 use Rattle.closing.proofs.close.spread.Tie as tie
 
 abbrev Inv-loop : tie.InvT-loop
-Inv-loop m₀ g near forward turned own masks changed₀ left₀ m changed left = (length m ≡ 24) × Spreading near (λ f. unionOf (rowsOf forward turned g f) own) m₀ left changed m
+Inv-loop m₀ g near forward turned own masks changed₀ left₀ m changed left = (length m ≡ mostFields) × Spreading near (λ f. unionOf (rowsOf forward turned g f) own) m₀ left changed m
 
 abbrev μ-loop : tie.MeasureT-loop
 μ-loop m₀ g near forward turned own masks changed₀ left₀ m changed left = left
@@ -40,25 +41,25 @@ mul-old : tie.Need-mul-old Inv-loop μ-loop
 mul-old c = search needs
 
 element-copy-out-old : tie.Need-element-copy-out-old Inv-loop μ-loop
-element-copy-out-old c = omega (arith, bit-bound 24 _ _ (c .before .before .before .before .before .before .before .before .pre .2) (c .before .before .before .loop .inv .1 .lefts _ (c .before .lowest-bit .ensures .0 .set)))
+element-copy-out-old c = omega (arith, bit-bound mostFields _ _ (c .before .before .before .before .before .before .before .before .pre .2) (c .before .before .before .loop .inv .1 .lefts _ (c .before .lowest-bit .ensures .0 .set)))
 
 kept-requires : tie.Need-kept-requires Inv-loop μ-loop
 kept-requires c κs =
     let b = c .before .before .before .before .before .loop .inv .1 .lefts _ (c .before .before .before .lowest-bit .ensures .0 .set) in
     let p = c .before .before .before .before .before .before .before .before .before .before .pre in
-    (p .1, bit-bound 24 _ _ (p .2) b, (λ e. never b (ap (bit (c .before .before .before .before .before .before .before .before .before .before .args .near)) (sym e) ∙ p .3)), p .4, p .5, c .before .before .before .before .before .before .floods .ensures)
+    (p .1, bit-bound mostFields _ _ (p .2) b, (λ e. never b (ap (bit (c .before .before .before .before .before .before .before .before .before .before .args .near)) (sym e) ∙ p .3)), p .4, p .5, c .before .before .before .before .before .before .floods .ensures)
 
 returns : tie.Need-returns Inv-loop μ-loop
 returns c =
     let i = c .before .before .before .before .before .before .before .before .loop .inv .1 in
-    let f = bit-bound 24 _ _ (c .before .before .before .before .before .before .before .before .before .before .before .before .before .pre .2) (c .before .before .before .before .before .before .before .before .loop .inv .1 .lefts _ (c .before .before .before .before .before .before .lowest-bit .ensures .0 .set)) in
+    let f = bit-bound mostFields _ _ (c .before .before .before .before .before .before .before .before .before .before .before .before .before .pre .2) (c .before .before .before .before .before .before .before .before .loop .inv .1 .lefts _ (c .before .before .before .before .before .before .lowest-bit .ensures .0 .set)) in
     spreading-none _ _ _ _ _ _ _ _ i (c .before .before .before .before .before .before .lowest-bit .ensures .0 .set) (omega (arith, f, c .before .before .before .before .before .before .before .before .loop .inv .0)) (c .before .before .kept .ensures) (c .if2 .taken) _ (i .shrunk .sized) _
 
 mul-m : tie.Need-mul-m Inv-loop μ-loop
 mul-m c = search needs
 
 element-write-m : tie.Need-element-write-m Inv-loop μ-loop
-element-write-m c = omega (arith, bit-bound 24 _ _ (c .before .before .before .before .before .before .before .before .before .before .before .before .before .pre .2) (c .before .before .before .before .before .before .before .before .loop .inv .1 .lefts _ (c .before .before .before .before .before .before .lowest-bit .ensures .0 .set)))
+element-write-m c = omega (arith, bit-bound mostFields _ _ (c .before .before .before .before .before .before .before .before .before .before .before .before .before .pre .2) (c .before .before .before .before .before .before .before .before .loop .inv .1 .lefts _ (c .before .before .before .before .before .before .lowest-bit .ensures .0 .set)))
 
 one-bit-requires : tie.Need-one-bit-requires Inv-loop μ-loop
 one-bit-requires c κs = search needs
@@ -69,7 +70,7 @@ loop-less c = rw (c .before .before .before .before .before .before .clear-bit .
 loop-again : tie.Need-loop-again Inv-loop μ-loop
 loop-again c =
     let i = c .before .before .before .before .before .before .before .before .before .loop .inv .1 in
-    let f = bit-bound 24 _ _ (c .before .before .before .before .before .before .before .before .before .before .before .before .before .before .pre .2) (c .before .before .before .before .before .before .before .before .before .loop .inv .1 .lefts _ (c .before .before .before .before .before .before .before .lowest-bit .ensures .0 .set)) in
+    let f = bit-bound mostFields _ _ (c .before .before .before .before .before .before .before .before .before .before .before .before .before .before .pre .2) (c .before .before .before .before .before .before .before .before .before .loop .inv .1 .lefts _ (c .before .before .before .before .before .before .before .lowest-bit .ensures .0 .set)) in
     (simp length-set (c .before .before .before .before .before .before .before .before .before .loop .inv .0), rw (c .before .before .before .before .before .before .clear-bit .ensures, c .one-bit .ensures) (spreading-store _ _ _ _ _ _ _ _ i (c .before .before .before .before .before .before .before .lowest-bit .ensures .0 .set) (omega (arith, f, c .before .before .before .before .before .before .before .before .before .loop .inv .0)) (c .before .before .before .kept .ensures) (c .before .before .if1 .taken) (c .before .if2 .left)))
 
 loop-less-2 : tie.Need-loop-less-2 Inv-loop μ-loop
@@ -78,7 +79,7 @@ loop-less-2 c = rw (c .before .before .before .before .clear-bit .ensures) (clea
 loop-again-2 : tie.Need-loop-again-2 Inv-loop μ-loop
 loop-again-2 c =
     let i = c .before .before .before .before .before .before .before .loop .inv .1 in
-    let f = bit-bound 24 _ _ (c .before .before .before .before .before .before .before .before .before .before .before .before .pre .2) (c .before .before .before .before .before .before .before .loop .inv .1 .lefts _ (c .before .before .before .before .before .lowest-bit .ensures .0 .set)) in
+    let f = bit-bound mostFields _ _ (c .before .before .before .before .before .before .before .before .before .before .before .before .pre .2) (c .before .before .before .before .before .before .before .loop .inv .1 .lefts _ (c .before .before .before .before .before .lowest-bit .ensures .0 .set)) in
     (c .before .before .before .before .before .before .before .loop .inv .0, rw (c .before .before .before .before .clear-bit .ensures) (spreading-same _ _ _ _ _ _ _ _ i (c .before .before .before .before .before .lowest-bit .ensures .0 .set) (omega (arith, f, c .before .before .before .before .before .before .before .loop .inv .0)) (c .before .kept .ensures) (c .if1 .left)))
 
 returns-2 : tie.Need-returns-2 Inv-loop μ-loop

@@ -3,15 +3,16 @@ use Prim.Native.Nat.{_≤_, _-_}
 use mathlib.Core.Path.{_≡_, refl}
 use native.Mathlib.Omega.{arith}
 use borrow.Author.Needs.{needs}
+use Rattle.limits.specs.Limits.{mostSettings}
 use Rattle.closing.specs.Union.{Floods, floods-none, floods-next}
 use Rattle.closing.proofs.union.floods.Statement.{statement}
 use Rattle.closing.proofs.union.floods.Tie as tie
 
 abbrev Inv-loop : tie.InvT-loop
-Inv-loop own masks₀ v₀ masks v = (v ≤ 24) × Floods own v masks
+Inv-loop own masks₀ v₀ masks v = (v ≤ mostSettings) × Floods own v masks
 
 abbrev μ-loop : tie.MeasureT-loop
-μ-loop own masks₀ v₀ masks v = 24 - v
+μ-loop own masks₀ v₀ masks v = mostSettings - v
 
 loop-holds : tie.Need-loop-holds Inv-loop μ-loop
 loop-holds c = (search needs, floods-none _ _ refl)
@@ -35,7 +36,7 @@ loop-again : tie.Need-loop-again Inv-loop μ-loop
 loop-again c = (search needs, rw (c .flood .ensures) (floods-next _ _ _ (c .before .loop-test .taken) (c .before .before .loop .inv .1)))
 
 returns : tie.Need-returns Inv-loop μ-loop
-returns c = let e : c .before .loop .v ≡ 24 = omega arith in rw e at (c .before .loop .inv .1)
+returns c = let e : c .before .loop .v ≡ mostSettings = omega arith in rw e at (c .before .loop .inv .1)
 
 pub floods-spec : {M : Type 1} → statement M
 floods-spec =

@@ -1,4 +1,4 @@
--- `union` takes the rows below 8 or below 24.
+-- `union` takes the first 8 rows or all.
 use mathlib.Core.Path.{_∙_}
 use Rattle.closing.specs.Union.{masked-small, masked-all}
 use borrow.Author.Needs.{needs}

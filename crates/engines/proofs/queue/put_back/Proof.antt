@@ -7,10 +7,10 @@ use Rattle.engines.proofs.queue.put_back.Statement.{statement}
 use Rattle.engines.proofs.queue.put_back.Tie as tie
 
 abbrev Inv-loop : tie.InvT-loop
-Inv-loop queue changed n reach hood r₀ left₀ r left = Backing n hood queue changed left r
+Inv-loop queue changed net r₀ left₀ r left = Backing (net .fields) (net .hood) queue changed left r
 
 abbrev μ-loop : tie.MeasureT-loop
-μ-loop queue changed n reach hood r₀ left₀ r left = left
+μ-loop queue changed net r₀ left₀ r left = left
 
 all-fields-requires : tie.Need-all-fields-requires Inv-loop μ-loop
 all-fields-requires c κs = c .before .before .pre .few
@@ -27,11 +27,14 @@ lowest-bit-requires c κs = search needs
 clear-bit-requires : tie.Need-clear-bit-requires Inv-loop μ-loop
 clear-bit-requires c κs = search needs
 
-mul-clear-bit : tie.Need-mul-clear-bit Inv-loop μ-loop
-mul-clear-bit c = let l = (c .before .before .before .before .before .pre .hoods _ (c .before .before .before .loop .inv .lefts _ (c .before .lowest-bit .ensures .0 .set)) .0) in omega arith
-
 element-copy-out-clear-bit : tie.Need-element-copy-out-clear-bit Inv-loop μ-loop
-element-copy-out-clear-bit c = (c .before .before .before .before .before .pre .hoods _ (c .before .before .before .loop .inv .lefts _ (c .before .lowest-bit .ensures .0 .set)) .0)
+element-copy-out-clear-bit c =
+    let lowest = c .before in
+    let loop = lowest .before .before in
+    loop .before .before .pre .hoods _ (loop .loop .inv .lefts _ (lowest .lowest-bit .ensures .0 .set)) .0
+
+mul-clear-bit : tie.Need-mul-clear-bit Inv-loop μ-loop
+mul-clear-bit c = let l = element-copy-out-clear-bit c in omega arith
 
 clear-bit-requires-2 : tie.Need-clear-bit-requires-2 Inv-loop μ-loop
 clear-bit-requires-2 c κs = search needs
@@ -40,7 +43,11 @@ loop-less : tie.Need-loop-less Inv-loop μ-loop
 loop-less c = rw (c .before .before .clear-bit .ensures) (clear-lt _ _ (c .before .before .before .lowest-bit .ensures .0 .set))
 
 loop-again : tie.Need-loop-again Inv-loop μ-loop
-loop-again c = rw (c .before .before .clear-bit .ensures, c .clear-bit2 .ensures) (backing-turn _ _ _ _ (c .before .before .before .before .before .before .before .pre) _ _ _ (c .before .before .before .lowest-bit .ensures .0 .set) (c .before .before .before .before .before .loop .inv))
+loop-again c =
+    let lowest = c .before .before .before in
+    let loop = lowest .before .before in
+    rw (c .before .before .clear-bit .ensures, c .clear-bit2 .ensures)
+    (backing-turn _ _ _ _ (loop .before .before .pre) _ _ _ (lowest .lowest-bit .ensures .0 .set) (loop .loop .inv))
 
 returns-2 : tie.Need-returns-2 Inv-loop μ-loop
 returns-2 c = backing-end _ _ _ _ (c .before .before .before .pre) _ _ (c .loop-test .left) (c .before .loop .inv)

@@ -3,7 +3,7 @@ use mathlib.Core.Path.{_≡_, refl, _∙_}
 use Prim.Native.Nat.{ℕ}
 use lib.ListN.{length}
 use Rattle.masks.specs.Sets.{count}
-use Rattle.network.specs.Tables.{problemOf}
+use Rattle.network.specs.Network.{problemIn}
 use Rattle.closing.specs.Shrunk.{shrunk-fewer}
 use Rattle.visiting.specs.Store.{Store, store-start}
 use Rattle.engines.specs.Engine.{Kept, kept-start, kept-then, kept-wiped, begun-engine, engine-none, engine-done}
@@ -12,11 +12,12 @@ use Rattle.engines.proofs.sac.sac.Statement.{statement}
 use Rattle.engines.proofs.sac.sac.Tie as tie
 
 abbrev Inv-loop : tie.InvT-loop
-Inv-loop m₀ memory₀ remembers n order hood joined forward turned known₀ m memory known =
-    ((touched : ℕ) × Kept (problemOf n joined forward turned) hood m₀ touched m) × Store (problemOf n joined forward turned) hood known memory × (length memory ≡ length memory₀)
+Inv-loop m₀ memory₀ remembers order net forward turned known₀ m memory known =
+    ((touched : ℕ) × Kept (problemIn net forward turned) (net .hood) m₀ touched m)
+    × Store (problemIn net forward turned) (net .hood) known memory × (length memory ≡ length memory₀)
 
 abbrev μ-loop : tie.MeasureT-loop
-μ-loop m₀ memory₀ remembers n order hood joined forward turned known₀ m memory known = count m
+μ-loop m₀ memory₀ remembers order net forward turned known₀ m memory known = count m
 
 begin-requires : tie.Need-begin-requires Inv-loop μ-loop
 begin-requires c κs = c .before .before .before .before .before .pre .0 .0
@@ -25,32 +26,52 @@ returns : tie.Need-returns Inv-loop μ-loop
 returns c = begun-engine _ _ _ _ (rw (c .if1 .taken) at (c .before .begin .ensures))
 
 loop-holds : tie.Need-loop-holds Inv-loop μ-loop
-loop-holds c = ((0, kept-start _ _ _ (c .before .begin .ensures .live (c .if1 .left))), store-start _ _ _ (c .before .before .before .before .before .before .before .pre .1), refl)
+loop-holds c =
+    let begun = c .before in
+    ((0, kept-start _ _ _ (begun .begin .ensures .live (c .if1 .left))), store-start _ _ _ (begun .before .before .before .before .before .before .pre .1), refl)
 
 pass-requires : tie.Need-pass-requires Inv-loop μ-loop
 pass-requires c κs =
-    let i = c .before .before .before .loop .inv in
-    ((kept-asks _ _ _ _ (begun-asks _ _ _ _ _ _ (c .before .before .before .before .before .before .before .before .before .before .before .pre .0 .0) (rw (c .before .before .before .before .if1 .left) at (c .before .before .before .before .before .begin .ensures))) (i .0 .1), i .1), c .before .before .before .before .before .before .before .before .before .before .before .pre .0 .1)
+    let loop = c .before .before .before in
+    let i = loop .loop .inv in
+    let begun = loop .before .before in
+    let p = begun .before .before .before .before .before .before .pre in
+    let live = begun-asks _ _ _ _ _ _ (p .0 .0) (rw (loop .before .if1 .left) at (begun .begin .ensures)) in
+    ((kept-asks _ _ _ _ live (i .0 .1), i .1), p .0 .1)
 
 same-length : tie.Need-same-length Inv-loop μ-loop
-same-length c = c .before .before .before .pass .kept .1 .1 .0 ∙ c .before .before .before .before .before .before .before .loop .inv .2
+same-length c = let pass = c .before .before .before in pass .pass .kept .1 .1 .0 ∙ pass .before .before .before .before .loop .inv .2
 
 returns-2 : tie.Need-returns-2 Inv-loop μ-loop
-returns-2 c = engine-none _ _ _ _ (rw (c .before .before .before .before .before .before .before .before .if1 .left) at (c .before .before .before .before .before .before .before .before .before .begin .ensures)) (kept-wiped _ (c .before .before .before .before .before .before .before .loop .inv .0 .1) (c .before .before .before .pass .ensures .0 .none (c .if2 .taken)))
+returns-2 c =
+    let pass = c .before .before .before in
+    let loop = pass .before .before .before .before in
+    let begun = rw (loop .before .if1 .left) at (loop .before .before .begin .ensures) in
+    engine-none _ _ _ _ begun (kept-wiped _ (loop .loop .inv .0 .1) (pass .pass .ensures .0 .none (c .if2 .taken)))
 
 same-length-2 : tie.Need-same-length-2 Inv-loop μ-loop
-same-length-2 c = c .before .before .before .before .before .pass .kept .1 .1 .0 ∙ c .before .before .before .before .before .before .before .before .before .loop .inv .2
+same-length-2 c = let pass = c .before .before .before .before .before in pass .pass .kept .1 .1 .0 ∙ pass .before .before .before .before .loop .inv .2
 
 returns-3 : tie.Need-returns-3 Inv-loop μ-loop
 returns-3 c =
-    let p = c .before .before .before .before .before .pass .ensures .0 in
-    engine-done _ _ _ _ (rw (c .before .before .before .before .before .before .before .before .before .before .if1 .left) at (c .before .before .before .before .before .before .before .before .before .before .before .begin .ensures)) (kept-then _ (c .before .before .before .before .before .before .before .before .before .loop .inv .0 .1) (p .kept (c .before .before .if2 .left))) (p .done (c .before .before .if2 .left) (c .if3 .taken))
+    let pass = c .before .before .before .before .before in
+    let loop = pass .before .before .before .before in
+    let begun = rw (loop .before .if1 .left) at (loop .before .before .begin .ensures) in
+    let p = pass .pass .ensures .0 in
+    let e = c .before .before .if2 .left in
+    engine-done _ _ _ _ begun (kept-then _ (loop .loop .inv .0 .1) (p .kept e)) (p .done e (c .if3 .taken))
 
 loop-less : tie.Need-loop-less Inv-loop μ-loop
 loop-less c = shrunk-fewer (c .before .before .before .before .before .pass .ensures .0 .kept (c .before .before .if2 .left) .shrunk) (c .if3 .left)
 
 loop-again : tie.Need-loop-again Inv-loop μ-loop
-loop-again c = ((_, kept-then _ (c .before .before .before .before .before .before .before .before .before .loop .inv .0 .1) (c .before .before .before .before .before .pass .ensures .0 .kept (c .before .before .if2 .left))), c .before .before .before .before .before .pass .ensures .1, c .before .before .before .before .before .pass .kept .1 .1 .0 ∙ c .before .before .before .before .before .before .before .before .before .loop .inv .2)
+loop-again c =
+    let pass = c .before .before .before .before .before in
+    let i = pass .before .before .before .before .loop .inv in (
+      (_, kept-then _ (i .0 .1) (pass .pass .ensures .0 .kept (c .before .before .if2 .left))),
+      pass .pass .ensures .1,
+      pass .pass .kept .1 .1 .0 ∙ i .2,
+    )
 
 pub sac-spec : {M : Type 1} → statement M
 sac-spec =

@@ -1,3 +1,5 @@
+-- `build` fills the tables and makes the neighbourhoods.
+use mathlib.Core.Path.{refl}
 use Rattle.network.specs.Network.{fields-few, joins-below, network-of}
 use borrow.Author.Needs.{needs}
 use Rattle.network.proofs.build.build.Statement.{statement}
@@ -13,13 +15,24 @@ fill-requires : tie.Need-fill-requires
 fill-requires c κs = search needs
 
 neighbourhoods-requires : tie.Need-neighbourhoods-requires
-neighbourhoods-requires c κs = (fields-few _ (c .before .before .before .before .before .before .before .before .before .pre .0) _ _ _ (c .before .before .before .fill .ensures) _ (c .before .before .before .before .before .before .fields .ensures), joins-below _ (c .before .before .before .before .before .before .before .before .before .pre .0) _ _ _ (c .before .before .before .fill .ensures) _ (c .before .before .before .before .before .before .fields .ensures))
+neighbourhoods-requires c κs =
+    let filled = c .before .before .before in
+    let fields = filled .before .before .before in
+    let accepted = fields .before .before .before .pre .0 in (
+      fields-few _ accepted _ _ _ (filled .fill .ensures) _ (fields .fields .ensures),
+      joins-below _ accepted _ _ _ (filled .fill .ensures) _ (fields .fields .ensures),
+    )
 
 same-length : tie.Need-same-length
 same-length c = search needs
 
 returns : tie.Need-returns
-returns c = network-of _ (c .before .before .before .before .before .before .before .before .before .before .pre .0) _ _ _ (c .before .before .before .before .fill .ensures) _ _ _ (c .before .before .before .before .before .before .before .fields .ensures) (c .before .before .before .before .before .before .reach .ensures) (c .neighbourhoods .ensures)
+returns c =
+    let filled = c .before .before .before .before in
+    let reach = filled .before .before in
+    let fields = reach .before in
+    network-of _ (fields .before .before .before .pre .0) _ _ _ (filled .fill .ensures) _ (fields .fields .ensures) (reach .reach .ensures) refl
+    (c .neighbourhoods .ensures)
 
 pub build-spec : {M : Type 1} → statement M
 build-spec =

@@ -2,15 +2,16 @@
 use mathlib.Core.Path.{_≡_, sym, _∙_}
 use Prim.Native.Nat.{_-_, _≤_}
 use borrow.Author.Needs.{needs}
+use Rattle.limits.specs.Limits.{mostFields}
 use Rattle.network.specs.Hoods.{Widening, widening-start, widening-in, widening-out}
 use Rattle.network.proofs.hoods.widen.Statement.{statement}
 use Rattle.network.proofs.hoods.widen.Tie as tie
 
 abbrev Inv-loop : tie.InvT-loop
-Inv-loop joined m wide₀ h₀ wide h = (h ≤ 24) × Widening joined m h wide
+Inv-loop joined m wide₀ h₀ wide h = (h ≤ mostFields) × Widening joined m h wide
 
 abbrev μ-loop : tie.MeasureT-loop
-μ-loop joined m wide₀ h₀ wide h = 24 - h
+μ-loop joined m wide₀ h₀ wide h = mostFields - h
 
 loop-holds : tie.Need-loop-holds Inv-loop μ-loop
 loop-holds c = (search needs, widening-start _ _)
@@ -40,7 +41,7 @@ loop-again-2 : tie.Need-loop-again-2 Inv-loop μ-loop
 loop-again-2 c = (search needs, widening-out _ _ _ _ (c .before .before .before .loop .inv .1) (sym (c .before .has-bit .ensures) ∙ c .if1 .left))
 
 returns : tie.Need-returns Inv-loop μ-loop
-returns c = let e : c .before .loop .h ≡ 24 = search needs in rw e at (c .before .loop .inv .1)
+returns c = let e : c .before .loop .h ≡ mostFields = search needs in rw e at (c .before .loop .inv .1)
 
 pub widen-spec : {M : Type 1} → statement M
 widen-spec =

@@ -2,15 +2,16 @@ use mathlib.Core.Path.{_≡_, sym}
 use Prim.Native.Nat.{_-_, _≤_}
 use native.Mathlib.Omega.{arith}
 use borrow.Author.Needs.{needs}
+use Rattle.limits.specs.Limits.{mostSettings}
 use Rattle.network.specs.Stored.{Stored, wordsOf, wordsOf-at, stored-start, stored-turn}
 use Rattle.network.proofs.rows.store.Statement.{statement}
 use Rattle.network.proofs.rows.store.Tie as tie
 
 abbrev Inv-loop : tie.InvT-loop
-Inv-loop words₀ base w h₀ words h = (h ≤ 24) × Stored words₀ base (wordsOf w) h words
+Inv-loop words₀ base w h₀ words h = (h ≤ mostSettings) × Stored words₀ base (wordsOf w) h words
 
 abbrev μ-loop : tie.MeasureT-loop
-μ-loop words₀ base w h₀ words h = 24 - h
+μ-loop words₀ base w h₀ words h = mostSettings - h
 
 loop-holds : tie.Need-loop-holds Inv-loop μ-loop
 loop-holds c = (search needs, stored-start _ _ _)
@@ -43,7 +44,7 @@ same-length : tie.Need-same-length Inv-loop μ-loop
 same-length c = c .before .loop .inv .1 .sized
 
 returns : tie.Need-returns Inv-loop μ-loop
-returns c = let e : c .before .loop .h ≡ 24 = omega arith in rw e at (c .before .loop .inv .1)
+returns c = let e : c .before .loop .h ≡ mostSettings = omega arith in rw e at (c .before .loop .inv .1)
 
 pub store-spec : {M : Type 1} → statement M
 store-spec =

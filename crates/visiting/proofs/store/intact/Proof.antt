@@ -8,15 +8,16 @@ use borrow.Author.Needs.{needs}
 use borrow.Author.Tests.{eqb-true}
 use lib.Dec.{eqb}
 use lib.ListN.{getD}
+use Rattle.limits.specs.Limits.{mostFields}
 use Rattle.visiting.specs.Store.{lackBelow, lack-none, lack-next, lack-inside}
 use Rattle.visiting.proofs.store.intact.Statement.{statement}
 use Rattle.visiting.proofs.store.intact.Tie as tie
 
 abbrev Inv-loop : tie.InvT-loop
-Inv-loop memory base m lack₀ h₀ lack h = (h ≤ 24) × (lack ≡ lackBelow h memory base m) × ((j : ℕ) → j < h → getD memory (base + j) 0 < 2 ^ 32)
+Inv-loop memory base m lack₀ h₀ lack h = (h ≤ mostFields) × (lack ≡ lackBelow h memory base m) × ((j : ℕ) → j < h → getD memory (base + j) 0 < 2 ^ 32)
 
 abbrev μ-loop : tie.MeasureT-loop
-μ-loop memory base m lack₀ h₀ lack h = 24 - h
+μ-loop memory base m lack₀ h₀ lack h = mostFields - h
 
 loop-holds : tie.Need-loop-holds Inv-loop μ-loop
 loop-holds c = (search needs, sym (lack-none _ _ _), λ j l. absurd (omega arith))
@@ -53,7 +54,7 @@ loop-again c =
 returns : tie.Need-returns Inv-loop μ-loop
 returns c =
     let i = c .before .loop .inv in
-    let e : c .before .loop .h ≡ 24 = omega arith in
+    let e : c .before .loop .h ≡ mostFields = omega arith in
     let z = rw e at (i .1) in
     (ap (λ (x : ℕ). eqb x 0) z, λ t. lack-inside _ _ _ (λ j l. i .2 j (omega arith)) (c .before .before .pre .1 .small) (c .before .before .pre .0) (sym z ∙ eqb-true _ 0 t))
 

@@ -1,12 +1,14 @@
 -- `visit` tests the settings of a field, and removes those that fail.
 use mathlib.Core.Path.{_≡_, refl, sym, _∙_}
+use Prim.Native.Nat.{_<_}
 use native.Mathlib.Omega.{arith}
 use borrow.Author.Needs.{needs}
 use borrow.Author.Tests.{not-true, not-false}
 use lib.Bits.{and-le-l}
 use lib.ListN.{length, getD}
+use Rattle.limits.specs.Limits.{mostFields}
 use Rattle.masks.specs.Words.{clear-lt}
-use Rattle.network.specs.Tables.{problemOf}
+use Rattle.network.specs.Network.{problemIn}
 use Rattle.closing.specs.Asks.{asks-shrunk}
 use Rattle.visiting.specs.Store.{Store}
 use Rattle.visiting.specs.Visit.{Visiting, visiting-start, visiting-has, visiting-pass, visiting-none, visiting-fail, visiting-end}
@@ -14,20 +16,25 @@ use Rattle.visiting.proofs.visit.visit.Statement.{statement}
 use Rattle.visiting.proofs.visit.visit.Tie as tie
 
 abbrev Inv-loop : tie.InvT-loop
-Inv-loop m₀ known₀ memory₀ remembers n f hood joined forward turned touched₀ left₀ m known memory touched left =
-    Visiting (problemOf n joined forward turned) (getD hood f 0) f m₀ left touched m × Store (problemOf n joined forward turned) hood known memory × (length memory ≡ length memory₀)
+Inv-loop m₀ known₀ memory₀ remembers f forward turned net n touched₀ left₀ m known memory touched left =
+    Visiting (problemIn net forward turned) (getD (net .hood) f 0) f m₀ left touched m
+    × Store (problemIn net forward turned) (net .hood) known memory × (length memory ≡ length memory₀)
 
 abbrev μ-loop : tie.MeasureT-loop
-μ-loop m₀ known₀ memory₀ remembers n f hood joined forward turned touched₀ left₀ m known memory touched left = left
+μ-loop m₀ known₀ memory₀ remembers f forward turned net n touched₀ left₀ m known memory touched left = left
+
+-- the field is one of those a set has a mask for
+low : (s : tie.Start Inv-loop μ-loop) → s .args .f < mostFields
+low s = let l = s .pre .1 .0 in let k = s .pre .0 .0 .wired .few in omega arith
 
 mul-left : tie.Need-mul-left Inv-loop μ-loop
-mul-left c = let l = c .before .before .before .pre .1 .0 in let k = c .before .before .before .pre .0 .0 .wired .few in omega arith
+mul-left c = let l = low (c .before .before .before) in omega arith
 
 element-copy-out-left : tie.Need-element-copy-out-left Inv-loop μ-loop
-element-copy-out-left c = let l = c .before .before .before .pre .1 .0 in let k = c .before .before .before .pre .0 .0 .wired .few in omega arith
+element-copy-out-left c = low (c .before .before .before)
 
 loop-holds : tie.Need-loop-holds Inv-loop μ-loop
-loop-holds c = (visiting-start _ _ _ _ (c .before .before .before .before .pre .0 .0 .live), c .before .before .before .before .pre .0 .1, refl)
+loop-holds c = let s = c .before .before .before .before in (visiting-start _ _ _ _ (s .pre .0 .0 .live), s .pre .0 .1, refl)
 
 lowest-bit-requires : tie.Need-lowest-bit-requires Inv-loop μ-loop
 lowest-bit-requires c κs = search needs
@@ -37,46 +44,78 @@ clear-bit-requires c κs = search needs
 
 check-requires : tie.Need-check-requires Inv-loop μ-loop
 check-requires c κs =
-    let i = c .before .before .before .before .before .before .loop .inv in
-    let p = c .before .before .before .before .before .before .before .before .before .before .before .pre in
-    ((asks-shrunk _ _ _ _ _ (p .0 .0) (i .0 .shrunk) (i .0 .live), i .1), (p .1 .1, p .1 .2, visiting-has _ _ _ _ _ _ _ _ (i .0) (c .before .before .before .before .lowest-bit .ensures .0 .set)))
+    let v = c .before .before .before .before .before .before .before in
+    let loop = v .before .before in
+    let i = loop .loop .inv in
+    let p = loop .before .before .before .before .before .pre in (
+      (asks-shrunk _ _ _ _ _ (p .0 .0) (i .0 .shrunk) (i .0 .live), i .1),
+      (p .1 .1, visiting-has _ _ _ _ _ _ _ _ (i .0) (v .lowest-bit .ensures .0 .set)),
+    )
 
 remove-requires : tie.Need-remove-requires Inv-loop μ-loop
 remove-requires c κs =
-    let i = c .before .before .before .before .before .before .before .before .before .before .before .loop .inv .0 in
-    (asks-shrunk _ _ _ _ _ (c .before .before .before .before .before .before .before .before .before .before .before .before .before .before .before .before .pre .0 .0) (i .shrunk) (i .live), visiting-has _ _ _ _ _ _ _ _ i (c .before .before .before .before .before .before .before .before .before .lowest-bit .ensures .0 .set))
+    let v = c .before .before .before .before .before .before .before .before .before .before .before .before .before .before in
+    let loop = v .before .before in
+    let i = loop .loop .inv .0 in (
+      asks-shrunk _ _ _ _ _ (loop .before .before .before .before .before .pre .0 .0) (i .shrunk) (i .live),
+      visiting-has _ _ _ _ _ _ _ _ i (v .lowest-bit .ensures .0 .set),
+    )
 
 same-length : tie.Need-same-length Inv-loop μ-loop
-same-length c = c .before .before .before .before .before .before .check .kept .1 .1 .0 ∙ c .before .before .before .before .before .before .before .before .before .before .before .before .before .loop .inv .2
+same-length c = let check = c .before .before .before .before .before .before .before .before in check .check .kept .1 .1 .0 ∙ check .before .before .before .before .before .before .before .before .before .before .loop .inv .2
 
 returns : tie.Need-returns Inv-loop μ-loop
-returns c = (visiting-none _ _ _ _ _ _ _ _ (c .before .before .before .before .before .before .before .before .before .before .before .before .before .loop .inv .0) (sym (c .before .before .before .before .before .before .check .ensures .passed) ∙ not-true (c .before .before .before .before .before .before .check .result) (c .before .before .before .if1 .taken)) _ _ (rw (c .if2 .taken) at (c .before .remove .ensures)) _, c .before .before .before .before .before .before .check .ensures .store)
+returns c =
+    let check = c .before .before .before .before .before .before .before .before in
+    let fails = sym (check .check .ensures .passed) ∙ not-true (check .check .result) (c .before .before .before .before .before .if1 .taken) in (
+      visiting-none _ _ _ _ _ _ _ _ (check .before .before .before .before .before .before .before .before .before .before .loop .inv .0) fails _ _ (rw (c .if2 .taken) at (c .before .remove .ensures)) _,
+      check .check .ensures .store,
+    )
 
 mul-left-2 : tie.Need-mul-left-2 Inv-loop μ-loop
-mul-left-2 c = let l = c .before .before .before .before .before .before .before .before .before .before .before .before .before .before .before .before .before .before .before .pre .1 .0 in let k = c .before .before .before .before .before .before .before .before .before .before .before .before .before .before .before .before .before .before .before .pre .0 .0 .wired .few in omega arith
+mul-left-2 c =
+    let loop = c .before .before .before .before .before .before .before .before .before .before .before .before .before .before .before .before .before .before .before in
+    let l = low (loop .before .before .before .before .before) in
+    omega arith
 
 element-copy-out-left-2 : tie.Need-element-copy-out-left-2 Inv-loop μ-loop
-element-copy-out-left-2 c = let l = c .before .before .before .before .before .before .before .before .before .before .before .before .before .before .before .before .before .before .before .pre .1 .0 in let k = c .before .before .before .before .before .before .before .before .before .before .before .before .before .before .before .before .before .before .before .pre .0 .0 .wired .few in omega arith
+element-copy-out-left-2 c =
+    let loop = c .before .before .before .before .before .before .before .before .before .before .before .before .before .before .before .before .before .before .before in
+    low (loop .before .before .before .before .before)
 
 loop-less : tie.Need-loop-less Inv-loop μ-loop
 loop-less c =
-    let l = clear-lt _ _ (c .before .before .before .before .before .before .before .before .before .before .before .before .before .lowest-bit .ensures .0 .set) in
-    let e = c .before .before .before .before .before .before .before .before .before .before .before .before .clear-bit .ensures in
-    let b = and-le-l (c .before .before .before .before .before .before .before .before .before .before .before .before .clear-bit .result) (getD (c .before .before .before .remove .last .0) (c .before .before .before .before .before .before .before .before .before .before .before .before .before .before .before .before .before .before .before .before .args .f) 0) in
-    omega (arith, l, e, b)
+    let clear = c .before .before .before .before .before .before .before .before .before .before .before .before .before .before .before .before .before in
+    let l = clear-lt _ _ (clear .before .lowest-bit .ensures .0 .set) in
+    let e = clear .clear-bit .ensures in
+    let k = and-le-l (clear .clear-bit .result) (getD (c .before .before .before .remove .last .0) (clear .before .before .before .before .before .before .before .before .args .f) 0) in
+    omega (arith, l, e, k)
 
 loop-again : tie.Need-loop-again Inv-loop μ-loop
-loop-again c = (
-  rw (c .before .before .before .before .before .before .before .before .before .before .before .before .clear-bit .ensures) (visiting-fail _ _ _ _ _ _ _ _ (c .before .before .before .before .before .before .before .before .before .before .before .before .before .before .before .loop .inv .0) (sym (c .before .before .before .before .before .before .before .before .check .ensures .passed) ∙ not-true (c .before .before .before .before .before .before .before .before .check .result) (c .before .before .before .before .before .if1 .taken)) _ _ (rw (c .before .before .if2 .left) at (c .before .before .before .remove .ensures))),
-  c .before .before .before .before .before .before .before .before .check .ensures .store,
-  c .before .before .before .before .before .before .before .before .check .kept .1 .1 .0 ∙ c .before .before .before .before .before .before .before .before .before .before .before .before .before .before .before .loop .inv .2,
-)
+loop-again c =
+    let check = c .before .before .before .before .before .before .before .before .before .before in
+    let loop = check .before .before .before .before .before .before .before .before .before .before in
+    let fails = sym (check .check .ensures .passed) ∙ not-true (check .check .result) (c .before .before .before .before .before .before .before .if1 .taken) in (
+      rw (check .before .before .before .before .before .before .before .clear-bit .ensures)
+          (visiting-fail _ _ _ _ _ _ _ _ (loop .loop .inv .0) fails _ _ (rw (c .before .before .if2 .left) at (c .before .before .before .remove .ensures))),
+      check .check .ensures .store,
+      check .check .kept .1 .1 .0 ∙ loop .loop .inv .2,
+    )
 
 loop-less-2 : tie.Need-loop-less-2 Inv-loop μ-loop
-loop-less-2 c = rw (c .before .before .before .before .before .before .before .clear-bit .ensures) (clear-lt _ _ (c .before .before .before .before .before .before .before .before .lowest-bit .ensures .0 .set))
+loop-less-2 c =
+    let clear = c .before .before .before .before .before .before .before .before .before .before in
+    rw (clear .clear-bit .ensures) (clear-lt _ _ (clear .before .lowest-bit .ensures .0 .set))
 
 loop-again-2 : tie.Need-loop-again-2 Inv-loop μ-loop
-loop-again-2 c = (rw (c .before .before .before .before .before .before .before .clear-bit .ensures) (visiting-pass _ _ _ _ _ _ _ _ (c .before .before .before .before .before .before .before .before .before .before .loop .inv .0) (sym (c .before .before .before .check .ensures .passed) ∙ not-false (c .before .before .before .check .result) (c .if1 .left))), c .before .before .before .check .ensures .store, c .before .before .before .check .kept .1 .1 .0 ∙ c .before .before .before .before .before .before .before .before .before .before .loop .inv .2)
+loop-again-2 c =
+    let check = c .before .before .before in
+    let loop = check .before .before .before .before .before .before .before .before .before .before in
+    let passes = sym (check .check .ensures .passed) ∙ not-false (check .check .result) (c .if1 .left) in (
+      rw (check .before .before .before .before .before .before .before .clear-bit .ensures) (visiting-pass _ _ _ _ _ _ _ _ (loop .loop .inv .0) passes),
+      check .check .ensures .store,
+      check .check .kept .1 .1 .0 ∙ loop .loop .inv .2,
+    )
 
 same-length-2 : tie.Need-same-length-2 Inv-loop μ-loop
 same-length-2 c = c .before .loop .inv .2

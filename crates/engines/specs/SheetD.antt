@@ -2,9 +2,10 @@
 use mathlib.Core.Path.{_≡_, refl, ap, _∙_}
 use mathlib.Core.Bool.{Bool, true, false}
 use mathlib.Core.List.{List, [], _∷_, _++_}
-use Prim.Native.Nat.{ℕ, zero, suc, _^_, _<_}
+use Prim.Native.Nat.{ℕ, zero, suc, _-_, _^_, _<_}
 use native.Mathlib.Omega.{arith}
 use lib.ListN.{getD, take, replicate, length-replicate}
+use Rattle.limits.specs.Limits.{mostFields, mostSettings, rowsWords, memoryWords}
 use Rattle.masks.specs.Tests.{never, allBelow, someBelow}
 use Rattle.masks.specs.Bits.{bit, bit-of-zero}
 use Rattle.masks.specs.Masks.{maskOf, keepIn, keepBits, someIn, someBit, countIn, countBits}
@@ -19,18 +20,18 @@ use Rattle.consistency.specs.Offers.{noneEmpty, passesOver, passes, offers, wip
 use Rattle.accepted.specs.Parts.{fieldStart, ruleStart, reachOf}
 use Rattle.accepted.specs.Cases.{numbersOfD, sheet-D}
 use Rattle.network.specs.SheetProblem.{runs, pairs, sheetProblem}
 use Rattle.engines.specs.Engine.{IsOrder, Offered}
-use Rattle.offering.specs.Offering.{OfferAsks}
+use Rattle.engines.specs.Offering.{OfferAsks}
 
 abbrev zeros : ℕ → List ℕ
 zeros n = replicate n 0
 
 -- every setting of its two fields
 abbrev pub startOfD : List ℕ
-startOfD = 7 ∷ 7 ∷ zeros 22
+startOfD = 7 ∷ 7 ∷ zeros (mostFields - 2)
 
 abbrev pub offersOfD : List ℕ
-offersOfD = 6 ∷ 3 ∷ zeros 22
+offersOfD = 6 ∷ 3 ∷ zeros (mostFields - 2)
 
 -- its fields in rising order
 abbrev pub orderOfD : List ℕ
@@ -38,10 +39,10 @@ orderOfD = 0 ∷ 1 ∷ []
 
 -- work spaces just long enough, with its numbers at the front of the second
 abbrev pub rowsOfD : List ℕ
-rowsOfD = zeros 13248
+rowsOfD = zeros rowsWords
 
 abbrev pub memoryOfD : List ℕ
-memoryOfD = numbersOfD ++ zeros 13809
+memoryOfD = numbersOfD ++ zeros (memoryWords - 15)
 
 order-D : IsOrder 2 orderOfD
 order-D = record { sized = refl; low = low; every = every }
@@ -56,26 +57,26 @@ order-D = record { sized = refl; low = low; every = every }
     every (suc zero) h = (1, h, refl)
     every (suc (suc f)) h = absurd (omega arith)
 
-small-D : (f : ℕ) → getD startOfD f 0 < 2 ^ 24
+small-D : (f : ℕ) → getD startOfD f 0 < 2 ^ mostSettings
 small-D zero = omega arith
 small-D (suc zero) = omega arith
-small-D (suc (suc f)) = rw (getD-zeros 22 f) (omega arith)
+small-D (suc (suc f)) = rw (getD-zeros (mostFields - 2) f) (omega arith)
 
 on-D : (f v : ℕ) → has startOfD f v ≡ true → f < 2
 unfolding has
 on-D zero v h = omega arith
 on-D (suc zero) v h = omega arith
-on-D (suc (suc f)) v h = absurd (never h (ap (λ (x : ℕ). bit x v) (getD-zeros 22 f) ∙ bit-of-zero v))
+on-D (suc (suc f)) v h = absurd (never h (ap (λ (x : ℕ). bit x v) (getD-zeros (mostFields - 2) f) ∙ bit-of-zero v))
 
 pub offer-asks-D : OfferAsks (take 15 memoryOfD) 15 orderOfD startOfD rowsOfD memoryOfD
 offer-asks-D = record {
   accepted = sheet-D .2;
-  ends = let n = length-replicate {A = ℕ} 13809 0 in omega arith;
+  ends = let n = length-replicate {A = ℕ} (memoryWords - 15) 0 in omega arith;
   visits = order-D;
   masks = record { long = refl; small = small-D };
   on = on-D;
-  tables = let n = length-replicate {A = ℕ} 13248 0 in omega arith;
-  room = let n = length-replicate {A = ℕ} 13809 0 in omega arith;
+  tables = let n = length-replicate {A = ℕ} rowsWords 0 in omega arith;
+  room = let n = length-replicate {A = ℕ} (memoryWords - 15) 0 in omega arith;
 }
 
 computed : (wipedOut (sheetProblem numbersOfD) (reachOf numbersOfD) startOfD ≡ false) × (offers (sheetProblem numbersOfD) (reachOf numbersOfD) startOfD ≡ offersOfD)

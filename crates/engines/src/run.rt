@@ -1,0 +1,37 @@
+// An engine by its number, on a network that is built: a network may be built once, and engines run on it many times.
+ghost use Prim.Native.Nat.{_≤_};
+ghost use lib.ListN.{length};
+ghost use Rattle.limits.specs.Limits.{memoryWords};
+ghost use Rattle.network.specs.Network.{problemIn};
+ghost use Rattle.engines.specs.Engine.{Engine};
+ghost use Rattle.engines.specs.EngineAsks.{RunAsks};
+use super::queue::queued;
+use super::sac::sac;
+use limits::FIELDS;
+use network::build::Network;
+
+// The engines by 01's numbers. Any other is taken for the first; the calls refuse it before.
+const SAC_2: u32 = 2;
+
+const QUEUE: u32 = 3;
+
+// The engine asked for. Whether the set is wiped out; if not, m becomes its offers. The memory may hold anything before and after.
+pub fn run<'a>(
+    m: &mut [u32; FIELDS],
+    memory: &mut [u32],
+    engine: u32,
+    order: &[u8],
+    net: Network,
+    forward: &'a [u32],
+    turned: &'a [u32],
+) -> bool
+    requires { ⌜ RunAsks net (now forward) (now turned) (now order) (now m) ⌝ }
+    requires { ⌜ memoryWords ≤ length (now memory) ⌝ }
+    ensures { λ r. ⌜ Engine (problemIn net (now (forward .entry)) (now (turned .entry))) (net .hood) (now (m .entry)) r (now (m .exit)) ⌝ }
+{
+    if engine == QUEUE {
+        return queued(m, memory, order, net, forward, turned);
+    }
+    let remembers = engine == SAC_2;
+    sac(m, memory, remembers, order, net, forward, turned)
+}
