@@ -1,0 +1,10 @@
+-- `open` is the answer to its call.
+use borrow.Author.Needs.{needs}
+use Rattle.calls.proofs.open.Statement.{statement}
+use Rattle.calls.proofs.open.Tie as tie
+
+returns : tie.Need-returns
+returns c = c .before .before .before .before .before .before .answer .ensures
+
+pub open-spec : {M : Type 1} → statement M
+open-spec = tie.close (tie.spec (λ c κs. tt) (λ c. search needs) (λ c. search needs) (λ c. search needs) returns)
