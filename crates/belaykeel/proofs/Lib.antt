@@ -1,3 +1,7 @@
+pub mod Frame
+pub mod Parameters
+pub mod Promise
+pub mod Outcome
+pub mod Outer
 pub mod Walk
-pub mod Plain
-pub mod Deciding
+pub mod Signatures

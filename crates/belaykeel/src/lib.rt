@@ -1,7 +1,8 @@
 // Belaykeel for C and Rust: each call with the session by `&mut`. What a call answers is said in the crate `answering`. A slice is a pointer and a
 // length; a caller in C answers for it that the pointer is valid for that length and that what is written overlaps nothing else that is lent.
 ghost use Rattle.ledger.specs.declared.Call.{Call};
-ghost use Rattle.answering.specs.Answer.{Answers};
+ghost use Rattle.ledger.specs.Ledger.{CHOOSE, STRIKE, WITHDRAW-CHOICE, WITHDRAW-STRIKE, decides};
+ghost use Rattle.answering.specs.Answer.{spaces, Answers};
 ghost use Rattle.sheet.specs.Judge.{Gives, reading, writing};
 use session::Session;
 use sheet::answer::Answer;
@@ -16,9 +17,11 @@ pub extern "C" fn belaykeel_open(
     rows: &mut [u32],
     memory: &mut [u32],
 ) -> u32
-    ensures { λ r. ⌜ Answers Call.Open (now (session .entry)) (now (sheet .entry)) engine (now (order .entry)) (now (offers .entry)) (now (rows .entry)) (now (memory .entry)) r (now (session .exit)) (now (offers .exit)) (now (rows .exit)) (now (memory .exit)) ⌝ }
+    ensures { λ r. ⌜ Answers Call.Open (now (session .entry)) (now (sheet .entry)) engine (now (order .entry))
+        (spaces (now (offers .entry)) (now (rows .entry)) (now (memory .entry)))
+        r (now (session .exit)) (spaces (now (offers .exit)) (now (rows .exit)) (now (memory .exit))) ⌝ }
 {
-    let out = session_calls::open(*session, sheet, engine, order, offers, rows, memory);
+    let out = calls::open(*session, sheet, engine, order, offers, rows, memory);
     *session = out.session;
     out.number
 }
@@ -33,9 +36,11 @@ pub extern "C" fn belaykeel_show(
     rows: &mut [u32],
     memory: &mut [u32],
 ) -> u32
-    ensures { λ r. ⌜ Answers Call.Show (now (session .entry)) (now (sheet .entry)) engine (now (order .entry)) (now (offers .entry)) (now (rows .entry)) (now (memory .entry)) r (now (session .exit)) (now (offers .exit)) (now (rows .exit)) (now (memory .exit)) ⌝ }
+    ensures { λ r. ⌜ Answers Call.Show (now (session .entry)) (now (sheet .entry)) engine (now (order .entry))
+        (spaces (now (offers .entry)) (now (rows .entry)) (now (memory .entry)))
+        r (now (session .exit)) (spaces (now (offers .exit)) (now (rows .exit)) (now (memory .exit))) ⌝ }
 {
-    let out = session_calls::show(*session, sheet, engine, order, offers, rows, memory);
+    let out = calls::show(*session, sheet, engine, order, offers, rows, memory);
     *session = out.session;
     out.number
 }
@@ -52,9 +57,11 @@ pub extern "C" fn belaykeel_choose(
     rows: &mut [u32],
     memory: &mut [u32],
 ) -> u32
-    ensures { λ r. ⌜ Answers (Call.Choose field position) (now (session .entry)) (now (sheet .entry)) engine (now (order .entry)) (now (offers .entry)) (now (rows .entry)) (now (memory .entry)) r (now (session .exit)) (now (offers .exit)) (now (rows .exit)) (now (memory .exit)) ⌝ }
+    ensures { λ r. ⌜ Answers (decides CHOOSE field position) (now (session .entry)) (now (sheet .entry)) engine (now (order .entry))
+        (spaces (now (offers .entry)) (now (rows .entry)) (now (memory .entry)))
+        r (now (session .exit)) (spaces (now (offers .exit)) (now (rows .exit)) (now (memory .exit))) ⌝ }
 {
-    let out = decision_calls::choose(
+    let out = calls::choose(
         *session,
         sheet,
         engine,
@@ -81,9 +88,11 @@ pub extern "C" fn belaykeel_strike(
     rows: &mut [u32],
     memory: &mut [u32],
 ) -> u32
-    ensures { λ r. ⌜ Answers (Call.Strike field position) (now (session .entry)) (now (sheet .entry)) engine (now (order .entry)) (now (offers .entry)) (now (rows .entry)) (now (memory .entry)) r (now (session .exit)) (now (offers .exit)) (now (rows .exit)) (now (memory .exit)) ⌝ }
+    ensures { λ r. ⌜ Answers (decides STRIKE field position) (now (session .entry)) (now (sheet .entry)) engine (now (order .entry))
+        (spaces (now (offers .entry)) (now (rows .entry)) (now (memory .entry)))
+        r (now (session .exit)) (spaces (now (offers .exit)) (now (rows .exit)) (now (memory .exit))) ⌝ }
 {
-    let out = decision_calls::strike(
+    let out = calls::strike(
         *session,
         sheet,
         engine,
@@ -110,9 +119,11 @@ pub extern "C" fn belaykeel_withdraw_choice(
     rows: &mut [u32],
     memory: &mut [u32],
 ) -> u32
-    ensures { λ r. ⌜ Answers (Call.WithdrawChoice field position) (now (session .entry)) (now (sheet .entry)) engine (now (order .entry)) (now (offers .entry)) (now (rows .entry)) (now (memory .entry)) r (now (session .exit)) (now (offers .exit)) (now (rows .exit)) (now (memory .exit)) ⌝ }
+    ensures { λ r. ⌜ Answers (decides WITHDRAW-CHOICE field position) (now (session .entry)) (now (sheet .entry)) engine (now (order .entry))
+        (spaces (now (offers .entry)) (now (rows .entry)) (now (memory .entry)))
+        r (now (session .exit)) (spaces (now (offers .exit)) (now (rows .exit)) (now (memory .exit))) ⌝ }
 {
-    let out = decision_calls::withdraw_choice(
+    let out = calls::withdraw_choice(
         *session,
         sheet,
         engine,
@@ -139,9 +150,11 @@ pub extern "C" fn belaykeel_withdraw_strike(
     rows: &mut [u32],
     memory: &mut [u32],
 ) -> u32
-    ensures { λ r. ⌜ Answers (Call.WithdrawStrike field position) (now (session .entry)) (now (sheet .entry)) engine (now (order .entry)) (now (offers .entry)) (now (rows .entry)) (now (memory .entry)) r (now (session .exit)) (now (offers .exit)) (now (rows .exit)) (now (memory .exit)) ⌝ }
+    ensures { λ r. ⌜ Answers (decides WITHDRAW-STRIKE field position) (now (session .entry)) (now (sheet .entry)) engine (now (order .entry))
+        (spaces (now (offers .entry)) (now (rows .entry)) (now (memory .entry)))
+        r (now (session .exit)) (spaces (now (offers .exit)) (now (rows .exit)) (now (memory .exit))) ⌝ }
 {
-    let out = decision_calls::withdraw_strike(
+    let out = calls::withdraw_strike(
         *session,
         sheet,
         engine,
@@ -166,9 +179,11 @@ pub extern "C" fn belaykeel_back(
     rows: &mut [u32],
     memory: &mut [u32],
 ) -> u32
-    ensures { λ r. ⌜ Answers Call.Back (now (session .entry)) (now (sheet .entry)) engine (now (order .entry)) (now (offers .entry)) (now (rows .entry)) (now (memory .entry)) r (now (session .exit)) (now (offers .exit)) (now (rows .exit)) (now (memory .exit)) ⌝ }
+    ensures { λ r. ⌜ Answers Call.Back (now (session .entry)) (now (sheet .entry)) engine (now (order .entry))
+        (spaces (now (offers .entry)) (now (rows .entry)) (now (memory .entry)))
+        r (now (session .exit)) (spaces (now (offers .exit)) (now (rows .exit)) (now (memory .exit))) ⌝ }
 {
-    let out = session_calls::back(*session, sheet, engine, order, offers, rows, memory);
+    let out = calls::back(*session, sheet, engine, order, offers, rows, memory);
     *session = out.session;
     out.number
 }
@@ -183,9 +198,11 @@ pub extern "C" fn belaykeel_coil_on(
     rows: &mut [u32],
     memory: &mut [u32],
 ) -> u32
-    ensures { λ r. ⌜ Answers Call.CoilOn (now (session .entry)) (now (sheet .entry)) engine (now (order .entry)) (now (offers .entry)) (now (rows .entry)) (now (memory .entry)) r (now (session .exit)) (now (offers .exit)) (now (rows .exit)) (now (memory .exit)) ⌝ }
+    ensures { λ r. ⌜ Answers Call.CoilOn (now (session .entry)) (now (sheet .entry)) engine (now (order .entry))
+        (spaces (now (offers .entry)) (now (rows .entry)) (now (memory .entry)))
+        r (now (session .exit)) (spaces (now (offers .exit)) (now (rows .exit)) (now (memory .exit))) ⌝ }
 {
-    let out = session_calls::coil_on(*session, sheet, engine, order, offers, rows, memory);
+    let out = calls::coil_on(*session, sheet, engine, order, offers, rows, memory);
     *session = out.session;
     out.number
 }

@@ -1,17 +1,14 @@
--- `belaykeel_choose` meets its contract: the walk of `Deciding`, over `decision_calls::choose`.
-use Rattle.ledger.specs.declared.Call.{Call}
-use Rattle.answering.specs.Answer.{Answers}
-use Rattle.decision_calls.proofs.choose.Symbol as callee
-use Rattle.decision_calls.proofs.choose.Met as kept
-use Rattle.belaykeel.proofs.Deciding.{Says, meets}
+-- `belaykeel_choose` meets its contract: the walk over `calls::choose`.
+use Rattle.ledger.specs.Ledger.{CHOOSE}
+use Rattle.calls.proofs.choose.Symbol as callee
+use Rattle.calls.proofs.choose.Met as kept
+use Rattle.belaykeel.proofs.Walk.{meets}
+use Rattle.belaykeel.proofs.Signatures.{numbered, deciding, decided}
 use Rattle.belaykeel.proofs.belaykeel_choose.Key as own
 use Rattle.belaykeel.proofs.belaykeel_choose.Statement as stated
 use Rattle.belaykeel.proofs.belaykeel_choose.Code as code
 
-abbrev says : Says
-says session sheet engine order field position = Answers (Call.Choose field position) session sheet engine order
-
 pub belaykeel-choose-spec : {M : Type 1} → stated.statement M
 unfolding code.routine
-belaykeel-choose-spec 𝓤 H 𝓜 𝓖 𝓡 =
-    meets 𝓤 H 𝓜 𝓖 𝓡 says code.env own.name callee.name callee.routine (code.unfolded 𝓤 H 𝓜 𝓡) code.calls-decision-calls·choose (kept.met 𝓤 H 𝓜 𝓖 𝓡)
+belaykeel-choose-spec =
+    meets numbered deciding (decided CHOOSE) code.env own.name callee.name callee.routine code.unfolded code.calls-calls·choose kept.met

@@ -1,17 +1,14 @@
--- `belaykeel_coil_on` meets its contract: the walk of `Plain`, over `session_calls::coil_on`.
+-- `belaykeel_coil_on` meets its contract: the walk over `calls::coil_on`.
 use Rattle.ledger.specs.declared.Call.{Call}
-use Rattle.answering.specs.Answer.{Answers}
-use Rattle.session_calls.proofs.coil_on.Symbol as callee
-use Rattle.session_calls.proofs.coil_on.Met as kept
-use Rattle.belaykeel.proofs.Plain.{Says, meets}
+use Rattle.calls.proofs.coil_on.Symbol as callee
+use Rattle.calls.proofs.coil_on.Met as kept
+use Rattle.belaykeel.proofs.Walk.{meets}
+use Rattle.belaykeel.proofs.Signatures.{numbered, plain, answered}
 use Rattle.belaykeel.proofs.belaykeel_coil_on.Key as own
 use Rattle.belaykeel.proofs.belaykeel_coil_on.Statement as stated
 use Rattle.belaykeel.proofs.belaykeel_coil_on.Code as code
 
-abbrev says : Says
-says = Answers Call.CoilOn
-
 pub belaykeel-coil-on-spec : {M : Type 1} → stated.statement M
 unfolding code.routine
-belaykeel-coil-on-spec 𝓤 H 𝓜 𝓖 𝓡 =
-    meets 𝓤 H 𝓜 𝓖 𝓡 says code.env own.name callee.name callee.routine (code.unfolded 𝓤 H 𝓜 𝓡) code.calls-session-calls·coil-on (kept.met 𝓤 H 𝓜 𝓖 𝓡)
+belaykeel-coil-on-spec =
+    meets numbered plain (answered Call.CoilOn) code.env own.name callee.name callee.routine code.unfolded code.calls-calls·coil-on kept.met

@@ -1,17 +1,14 @@
--- `belaykeel_withdraw_choice` meets its contract: the walk of `Deciding`, over `decision_calls::withdraw_choice`.
-use Rattle.ledger.specs.declared.Call.{Call}
-use Rattle.answering.specs.Answer.{Answers}
-use Rattle.decision_calls.proofs.withdraw_choice.Symbol as callee
-use Rattle.decision_calls.proofs.withdraw_choice.Met as kept
-use Rattle.belaykeel.proofs.Deciding.{Says, meets}
+-- `belaykeel_withdraw_choice` meets its contract: the walk over `calls::withdraw_choice`.
+use Rattle.ledger.specs.Ledger.{WITHDRAW-CHOICE}
+use Rattle.calls.proofs.withdraw_choice.Symbol as callee
+use Rattle.calls.proofs.withdraw_choice.Met as kept
+use Rattle.belaykeel.proofs.Walk.{meets}
+use Rattle.belaykeel.proofs.Signatures.{numbered, deciding, decided}
 use Rattle.belaykeel.proofs.belaykeel_withdraw_choice.Key as own
 use Rattle.belaykeel.proofs.belaykeel_withdraw_choice.Statement as stated
 use Rattle.belaykeel.proofs.belaykeel_withdraw_choice.Code as code
 
-abbrev says : Says
-says session sheet engine order field position = Answers (Call.WithdrawChoice field position) session sheet engine order
-
 pub belaykeel-withdraw-choice-spec : {M : Type 1} → stated.statement M
 unfolding code.routine
-belaykeel-withdraw-choice-spec 𝓤 H 𝓜 𝓖 𝓡 =
-    meets 𝓤 H 𝓜 𝓖 𝓡 says code.env own.name callee.name callee.routine (code.unfolded 𝓤 H 𝓜 𝓡) code.calls-decision-calls·withdraw-choice (kept.met 𝓤 H 𝓜 𝓖 𝓡)
+belaykeel-withdraw-choice-spec =
+    meets numbered deciding (decided WITHDRAW-CHOICE) code.env own.name callee.name callee.routine code.unfolded code.calls-calls·withdraw-choice kept.met

@@ -1,0 +1,46 @@
+-- The signatures of the outer functions: what their callees return, their parameters after the session, and what they say.
+use mathlib.Core.Path.{refl}
+use mathlib.Core.List.{List, [], _∷_}
+use Prim.Native.Nat.{ℕ}
+use mir.Syntax.{w8, w32}
+use denote.Struct.Field.{u32-field}
+use denote.Struct.Laws.{u32-laws, u32-plain}
+use Rattle.ledger.specs.declared.Call.{Call}
+use Rattle.ledger.specs.Ledger.{decides}
+use Rattle.session.specs.declared.Outcome.{Outcome}
+use Rattle.session.proofs.Outcome as O
+use Rattle.answering.specs.Answer.{spaces, Answers}
+use Rattle.belaykeel.proofs.Parameters.{Kind, number, shared, lent}
+use Rattle.belaykeel.proofs.Outcome.{Returned}
+use Rattle.belaykeel.proofs.Outer.{Says}
+
+-- a number
+abbrev pub numbered : Returned
+numbered = record {
+  answers = u32-field;
+  laws = u32-laws;
+  plain = u32-plain;
+  one = refl;
+  name = O.the-type .name;
+  Outcome = Outcome;
+  answer = λ r. r .number;
+  session = λ r. r .session;
+}
+
+-- sheet, engine, order, offers, rows, memory
+abbrev pub plain : List Kind
+plain = shared w8 ∷ number w32 ∷ shared w8 ∷ lent w32 ∷ lent w32 ∷ lent w32 ∷ []
+
+-- sheet, engine, order, field, position, offers, rows, memory
+abbrev pub deciding : List Kind
+deciding = shared w8 ∷ number w32 ∷ shared w8 ∷ number w32 ∷ number w32 ∷ lent w32 ∷ lent w32 ∷ lent w32 ∷ []
+
+-- a call with no field and no position
+abbrev pub answered : Call → Says numbered plain
+answered c session sheet engine order offers rows memory k session′ offers′ rows′ memory′ =
+    Answers c session sheet engine order (spaces offers rows memory) k session′ (spaces offers′ rows′ memory′)
+
+-- a call that changes the decisions, by the kind of its event
+abbrev pub decided : ℕ → Says numbered deciding
+decided kind session sheet engine order field position offers rows memory k session′ offers′ rows′ memory′ =
+    Answers (decides kind field position) session sheet engine order (spaces offers rows memory) k session′ (spaces offers′ rows′ memory′)
