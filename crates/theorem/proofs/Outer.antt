@@ -2,8 +2,8 @@
 -- function that takes a struct by `&mut`, so both are read off its clauses here.
 --     Learnt       what a caller learns of a call: the one fact that the `ensures` is, at every model
 --     Public       of a function: it asks nothing of its arguments, and what is proved of it is the contract of these clauses
---     Made         a call of one of the eight functions
---     told         each contract is `Answered`, of the session at entry and at exit
+--     Called         a call of one of the eight functions
+--     answered         each contract is `Answered`, of the session at entry and at exit
 --     ..-public    each function is `Public`
 use mathlib.Core.Path.{_≡_, refl}
 use Prim.Native.Nat.{ℕ}
@@ -21,6 +21,7 @@ use denote.Triple.Entry.{Args, Res}
 use denote.Triple.Spec.{Meets}
 use denote.Triple.Clauses.{Ended, AtExit, Clauses, closing}
 use Rattle.ledger.specs.declared.Call.{Call}
+use Rattle.ledger.specs.Ledger.{CHOOSE, STRIKE, WITHDRAW-CHOICE, WITHDRAW-STRIKE}
 use Rattle.belaykeel.proofs.belaykeel_back
 use Rattle.belaykeel.proofs.belaykeel_choose
 use Rattle.belaykeel.proofs.belaykeel_coil_on
@@ -50,41 +51,41 @@ pub record Public (F : Ended) (c : Written F) (routine : Routine) : Type 2 where
       → Meets (w .𝓤) (w .H) (w .𝓖 .A) (F .signature) (w .𝓡 .run routine) (closing (w .𝓤) (w .H) (w .𝓖 .A) F (at F c w))
 
 -- ---- the calls
-pub data Made : Turn → Type 0 where
+pub data Called : Turn → Type 0 where
   by-open : (κs : Lfts 6) (a : Args belaykeel_open.signature κs) (r : ℕ) (e : AtExit belaykeel_open.ended κs)
       → Learnt belaykeel_open.ended (λ M. belaykeel_open.clauses {M = M}) κs a r e _ (λ w g. refl)
-      → Made (plain Call.Open (now (a .0)) (a .1) r (now (e .0)) (e .1))
+      → Called (plain Call.Open (now (a .0)) (a .1) r (now (e .0)) (e .1))
   by-show : (κs : Lfts 6) (a : Args belaykeel_show.signature κs) (r : ℕ) (e : AtExit belaykeel_show.ended κs)
       → Learnt belaykeel_show.ended (λ M. belaykeel_show.clauses {M = M}) κs a r e _ (λ w g. refl)
-      → Made (plain Call.Show (now (a .0)) (a .1) r (now (e .0)) (e .1))
+      → Called (plain Call.Show (now (a .0)) (a .1) r (now (e .0)) (e .1))
   by-choose : (κs : Lfts 6) (a : Args belaykeel_choose.signature κs) (r : ℕ) (e : AtExit belaykeel_choose.ended κs)
       → Learnt belaykeel_choose.ended (λ M. belaykeel_choose.clauses {M = M}) κs a r e _ (λ w g. refl)
-      → Made (deciding Call.Choose (now (a .0)) (a .1) r (now (e .0)) (e .1))
+      → Called (deciding CHOOSE (now (a .0)) (a .1) r (now (e .0)) (e .1))
   by-strike : (κs : Lfts 6) (a : Args belaykeel_strike.signature κs) (r : ℕ) (e : AtExit belaykeel_strike.ended κs)
       → Learnt belaykeel_strike.ended (λ M. belaykeel_strike.clauses {M = M}) κs a r e _ (λ w g. refl)
-      → Made (deciding Call.Strike (now (a .0)) (a .1) r (now (e .0)) (e .1))
+      → Called (deciding STRIKE (now (a .0)) (a .1) r (now (e .0)) (e .1))
   by-withdraw-choice : (κs : Lfts 6) (a : Args belaykeel_withdraw_choice.signature κs) (r : ℕ) (e : AtExit belaykeel_withdraw_choice.ended κs)
       → Learnt belaykeel_withdraw_choice.ended (λ M. belaykeel_withdraw_choice.clauses {M = M}) κs a r e _ (λ w g. refl)
-      → Made (deciding Call.WithdrawChoice (now (a .0)) (a .1) r (now (e .0)) (e .1))
+      → Called (deciding WITHDRAW-CHOICE (now (a .0)) (a .1) r (now (e .0)) (e .1))
   by-withdraw-strike : (κs : Lfts 6) (a : Args belaykeel_withdraw_strike.signature κs) (r : ℕ) (e : AtExit belaykeel_withdraw_strike.ended κs)
       → Learnt belaykeel_withdraw_strike.ended (λ M. belaykeel_withdraw_strike.clauses {M = M}) κs a r e _ (λ w g. refl)
-      → Made (deciding Call.WithdrawStrike (now (a .0)) (a .1) r (now (e .0)) (e .1))
+      → Called (deciding WITHDRAW-STRIKE (now (a .0)) (a .1) r (now (e .0)) (e .1))
   by-back : (κs : Lfts 6) (a : Args belaykeel_back.signature κs) (r : ℕ) (e : AtExit belaykeel_back.ended κs)
       → Learnt belaykeel_back.ended (λ M. belaykeel_back.clauses {M = M}) κs a r e _ (λ w g. refl)
-      → Made (plain Call.Back (now (a .0)) (a .1) r (now (e .0)) (e .1))
+      → Called (plain Call.Back (now (a .0)) (a .1) r (now (e .0)) (e .1))
   by-coil-on : (κs : Lfts 6) (a : Args belaykeel_coil_on.signature κs) (r : ℕ) (e : AtExit belaykeel_coil_on.ended κs)
       → Learnt belaykeel_coil_on.ended (λ M. belaykeel_coil_on.clauses {M = M}) κs a r e _ (λ w g. refl)
-      → Made (plain Call.CoilOn (now (a .0)) (a .1) r (now (e .0)) (e .1))
+      → Called (plain Call.CoilOn (now (a .0)) (a .1) r (now (e .0)) (e .1))
 
-pub told : {t : Turn} → Made t → Answered t
-told (by-open κs a r e h) = h
-told (by-show κs a r e h) = h
-told (by-choose κs a r e h) = h
-told (by-strike κs a r e h) = h
-told (by-withdraw-choice κs a r e h) = h
-told (by-withdraw-strike κs a r e h) = h
-told (by-back κs a r e h) = h
-told (by-coil-on κs a r e h) = h
+pub answered : {t : Turn} → Called t → Answered t
+answered (by-open κs a r e h) = h
+answered (by-show κs a r e h) = h
+answered (by-choose κs a r e h) = h
+answered (by-strike κs a r e h) = h
+answered (by-withdraw-choice κs a r e h) = h
+answered (by-withdraw-strike κs a r e h) = h
+answered (by-back κs a r e h) = h
+answered (by-coil-on κs a r e h) = h
 
 pub open-public : Public belaykeel_open.ended (λ M. belaykeel_open.clauses {M = M}) belaykeel_open.Symbol.routine
 open-public = record { free = λ κs a w. (tt, refl); kept = λ w. belaykeel_open.Met.met (w .𝓤) (w .H) (w .𝓜) (w .𝓖) (w .𝓡) }

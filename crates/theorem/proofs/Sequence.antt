@@ -7,47 +7,47 @@ use Prim.Native.Nat.{ℕ}
 use borrow.Author.Tests.{eq-eqb}
 use Rattle.masks.specs.Pick.{pick-true}
 use Rattle.ledger.specs.declared.Call.{Call}
-use Rattle.ledger.specs.Ledger.{Ledger, Given, inForce, offersOf, step, number, causes, judged, malformed, after}
-use Rattle.ledger.specs.Laws.{Same, same-ledger}
+use Rattle.ledger.specs.Ledger.{Ledger, Given, inForce, offersOf, step, number, causes, judged, after}
+use Rattle.ledger.specs.Laws.{SameLedger, same-ledger}
 use Rattle.session.specs.declared.Session.{Session}
-use Rattle.session.specs.View.{view}
+use Rattle.session.specs.View.{view, Sized}
 use Rattle.theorem.specs.Turns.{Turn, Answered}
-use Rattle.theorem.specs.Follows.{Sized, givenTo, numbersOf, next, Agrees, Follows, ends, goes}
-use Rattle.theorem.specs.Going.{went}
+use Rattle.theorem.specs.Follows.{givenTo, numbersOf, next, Agrees, Follows, ends, goes}
+use Rattle.theorem.specs.Going.{call-agrees}
 use Rattle.theorem.proofs.Inner as inner
 use Rattle.theorem.proofs.Outer as outer
 
 -- a call of one of the library's functions
-pub data Made (t : Turn) : Type 0 where
-  by-value : inner.Made t → Made t
-  by-reference : outer.Made t → Made t
+pub data Called (t : Turn) : Type 0 where
+  by-value : inner.Called t → Called t
+  by-reference : outer.Called t → Called t
 
-told : {t : Turn} → Made t → Answered t
-told (by-value m) = inner.told m
-told (by-reference m) = outer.told m
+answered : {t : Turn} → Called t → Answered t
+answered (by-value m) = inner.answered m
+answered (by-reference m) = outer.answered m
 
 -- calls with one sheet, each given the session as the one before left it
 pub data Calls (sheet : List ℕ) : Session → List Turn → Type 0 where
   none-yet : {s : Session} → Calls sheet s []
-  then : {t : Turn} {ts : List Turn} → t .sheet ≡ sheet → Made t → Calls sheet (t .session′) ts → Calls sheet (t .session) (t ∷ ts)
+  then : {t : Turn} {ts : List Turn} → t .sheet ≡ sheet → Called t → Calls sheet (t .session′) ts → Calls sheet (t .session) (t ∷ ts)
 
 -- from a session that shows a ledger on
-pub follows : (sheet : List ℕ) (s : Session) (ts : List Turn) → Calls sheet s ts → Sized s → (l : Ledger) → Same (view s) l → Follows l ts
+pub follows : (sheet : List ℕ) (s : Session) (ts : List Turn) → Calls sheet s ts → Sized s → (l : Ledger) → SameLedger (view s) l → Follows l ts
 follows sheet s [] none-yet z l a = ends
-follows sheet s (t ∷ ts) (then e m cs) z l a = let w = went l t z a (told m) in goes (w .0) (follows sheet (t .session′) ts cs (w .2) (next l t) (w .1))
+follows sheet s (t ∷ ts) (then e m cs) z l a = let w = call-agrees l t z a (answered m) in goes (w .0) (follows sheet (t .session′) ts cs (w .2) (next l t) (w .1))
 
 -- The number of an `open` does not depend on what came before it, and neither does the ledger after one that is accepted.
 module _ (g : Given) (c : Call) (o : c ≡ Call.Open) (l m : Ledger) where
   open-number : number g c l ≡ number g c m
-  open-number = rw o (unfold number causes judged malformed step in refl)
+  open-number = rw o (unfold number causes judged step in refl)
 
   open-after : number g c l ≡ 0 → after g c l ≡ after g c m
   open-after e = unfold after in (pick-true _ _ _ (eq-eqb _ 0 e) ∙ rw o (unfold step in refl) ∙ sym (pick-true _ _ _ (eq-eqb _ 0 (sym open-number ∙ e))))
 
 -- the first call: whatever the session and whatever the ledger held
-opened : (t : Turn) → t .call ≡ Call.Open → Sized (t .session) → Answered t → (l : Ledger) → number (givenTo t) (t .call) l ≡ 0 → Agrees l t × Same (view (t .session′)) (next l t) × Sized (t .session′)
+opened : (t : Turn) → t .call ≡ Call.Open → Sized (t .session) → Answered t → (l : Ledger) → number (givenTo t) (t .call) l ≡ 0 → Agrees l t × SameLedger (view (t .session′)) (next l t) × Sized (t .session′)
 opened t o z m l k =
-    let w = went (view (t .session)) t z (same-ledger (view (t .session))) m in
+    let w = call-agrees (view (t .session)) t z (same-ledger (view (t .session))) m in
     let a = w .0 in
     let n : t .number ≡ 0 = a .numbered ∙ open-number (givenTo t) (t .call) o (view (t .session)) l ∙ k in
     let e : next (view (t .session)) t ≡ next l t = open-after (givenTo t) (t .call) o (view (t .session)) l (sym (a .numbered) ∙ n) in (
@@ -55,7 +55,7 @@ opened t o z m l k =
         numbered = a .numbered ∙ open-number (givenTo t) (t .call) o (view (t .session)) l;
         decided = λ d. a .decided d ∙ ap (λ (x : Ledger). inForce (x .decisions) d) e;
         happened = a .happened ∙ ap (λ (x : Ledger). x .events) e;
-        shown = λ y. a .shown y ∙ ap (λ (x : Ledger). offersOf (numbersOf t) (x .decisions)) e;
+        shown = λ y. a .shown y ∙ ap (λ (x : Ledger). offersOf (numbersOf t) x) e;
         untouched = a .untouched;
         kept = a .kept;
       },
@@ -65,4 +65,4 @@ opened t o z m l k =
 
 -- THE THEOREM
 pub demand-3 : (sheet : List ℕ) (s : Session) (t : Turn) (ts : List Turn) → Sized s → t .call ≡ Call.Open → Calls sheet s (t ∷ ts) → (l : Ledger) → number (givenTo t) (t .call) l ≡ 0 → Follows l (t ∷ ts)
-demand-3 sheet s t ts z o (then e m cs) l k = let w = opened t o z (told m) l k in goes (w .0) (follows sheet (t .session′) ts cs (w .2) (next l t) (w .1))
+demand-3 sheet s t ts z o (then e m cs) l k = let w = opened t o z (answered m) l k in goes (w .0) (follows sheet (t .session′) ts cs (w .2) (next l t) (w .1))

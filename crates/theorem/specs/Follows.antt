@@ -3,26 +3,18 @@
 use mathlib.Core.Path.{_≡_}
 use mathlib.Core.List.{List, [], _∷_}
 use Prim.Native.Nat.{ℕ}
-use lib.ListN.{length, take, drop}
+use lib.ListN.{take, drop}
 use Rattle.sheet.specs.Judge.{numbers, ofBytes}
 use Rattle.accepted.specs.Parts.{fieldsOf}
 use Rattle.ledger.specs.Ledger.{Decision, Ledger, Given, inForce, offersOf, number, after}
-use Rattle.session.specs.declared.Session.{Session}
 use Rattle.session.specs.Decisions.{heldIn}
-use Rattle.session.specs.Events.{past}
-use Rattle.session.specs.View.{decisionsIn}
+use Rattle.session.specs.View.{past}
 use Rattle.answering.specs.Answer.{given}
 use Rattle.theorem.specs.Turns.{Turn}
 
--- The arrays of a session have their lengths. Every session in memory is so; a record of lists need not be.
-pub record Sized (s : Session) : Type 0 where
-  pub choices : length (s .choices) ≡ 24
-  pub strikes : length (s .strikes) ≡ 24
-  pub events : length (s .events) ≡ 64
-
 -- what the ledger is fed of a call
 abbrev pub givenTo : Turn → Given
-givenTo t = given (t .sheet) (t .engine) (t .order) (t .offers) (t .rows) (t .memory)
+givenTo t = given (t .sheet) (t .engine) (t .order) (t .lent)
 
 -- the sheet's numbers, how many fields it has, and the ledger after the call
 abbrev pub numbersOf : Turn → List ℕ
@@ -39,13 +31,13 @@ pub record Agrees (l : Ledger) (t : Turn) : Type 0 where
   -- its number is the ledger's
   pub numbered : t .number ≡ number (givenTo t) (t .call) l
   -- the decisions in force, as a set, and the events in their order, the latest first
-  pub decided : (d : Decision) → heldIn (decisionsIn (t .session′)) d ≡ inForce (next l t .decisions) d
+  pub decided : (d : Decision) → heldIn (t .session′ .decisions) d ≡ inForce (next l t .decisions) d
   pub happened : past (t .session′ .events) (t .session′ .count) ≡ next l t .events
   -- where the number is 0, the n masks written are the ledger's offers after the step, and later words are untouched
-  pub shown : t .number ≡ 0 → take (fields t) (t .offers′) ≡ offersOf (numbersOf t) (next l t .decisions)
-  pub untouched : t .number ≡ 0 → drop (fields t) (t .offers′) ≡ drop (fields t) (t .offers)
+  pub shown : t .number ≡ 0 → take (fields t) (t .left .offers) ≡ offersOf (numbersOf t) (next l t)
+  pub untouched : t .number ≡ 0 → drop (fields t) (t .left .offers) ≡ drop (fields t) (t .lent .offers)
   -- a refused call left its offers list as it was
-  pub kept : (t .number ≡ 0 → ⊥) → t .offers′ ≡ t .offers
+  pub kept : (t .number ≡ 0 → ⊥) → t .left .offers ≡ t .lent .offers
 
 -- All calls of a sequence, one after the other.
 pub data Follows : Ledger → List Turn → Type 0 where
