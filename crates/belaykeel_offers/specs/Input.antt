@@ -12,6 +12,7 @@ use lib.Seq.{take-take, take-all, length-take-le}
 use borrow.Author.Tests.{ltb-true, ltb-false, leb-true, eqb-false, ne-eqb}
 use Rattle.masks.specs.Tests.{and-l, and-r}
 use Rattle.masks.specs.Pick.{pick}
+use Rattle.limits.specs.Limits.{mostFields, mostSettings, mostNumbers, offersWords}
 use Rattle.limits.specs.Refusals.{SURPLUS, OUT-OF-RANGE, OUT-OF-ORDER}
 use Rattle.groups.specs.Groups.{groups, numberAt, lastGroup, groups-number, groups-nothing, groups-empty}
 use Rattle.sheet.specs.Judge.{Item, num, cut, ill, judge, refusal, itemsFrom, ofBytes}
@@ -25,8 +26,9 @@ use Rattle.grammar.specs.declared.grammar.Expected.{Expected}
 use Rattle.grammar.specs.declared.grammar.Expected.the-variants.{Fields, Count, Setting, Reach, Rules, First, Second, Kind, Mask, Amount}
 use Rattle.grammar.specs.declared.grammar.State.{State}
 use Rattle.grammar.specs.declared.grammar.State.the-variants.{Wants, Complete, OutOfRange, OutOfOrder}
-use Rattle.answering.specs.Answer.{Answer}
-use Rattle.belaykeel_offers.specs.Opening.{empty, opening, opening-refused, listOf}
+use Rattle.session.specs.Steps.{freshSession}
+use Rattle.answering.specs.Answer.{CallResult}
+use Rattle.belaykeel_offers.specs.Opening.{opening, opening-refused, listOf}
 
 -- ---- a number is decided by four bytes
 
@@ -120,7 +122,7 @@ Placed n (Mask rules floor j rest) = Unit {0}
 Placed n (Amount rules floor) = Unit {0}
 
 abbrev Low : List ℕ → Type 0
-Low ds = (k : ℕ) → getD ds k 0 ≤ 24
+Low ds = (k : ℕ) → getD ds k 0 ≤ mostSettings
 
 -- at most b numbers may still come
 abbrev Fits : ℕ → State → List ℕ → Type 0
@@ -134,7 +136,7 @@ unfolding pick
 fits-pick b true a z ds p q = p refl
 fits-pick b false a z ds p q = q refl
 
-low-set : (ds : List ℕ) (f x : ℕ) → Low ds → x ≤ 24 → Low (set ds f x)
+low-set : (ds : List ℕ) (f x : ℕ) → Low ds → x ≤ mostSettings → Low (set ds f x)
 low-set [] f x l h k = l k
 low-set (d ∷ ds) zero x l h zero = h
 low-set (d ∷ ds) zero x l h (suc k) = l (suc k)
@@ -168,9 +170,9 @@ fits-ordered b t a ds p = fits-pick b t a OutOfOrder ds p (λ e. tt)
 
 fits-step : (b n : ℕ) (e : Expected) (ds : List ℕ) (x : ℕ) → Fits (suc b) (Wants n e) ds → Fits b (step n e ds x .0) (step n e ds x .1)
 unfolding step
-fits-step b n Fields ds x h = fits-ranged b _ _ ds (λ t. let u = up-to 24 x t in (omega arith, omega arith, h .2))
+fits-step b n Fields ds x h = fits-ranged b _ _ ds (λ t. let u = up-to mostFields x t in (omega arith, omega arith, h .2))
 fits-step b n (Count f) ds x h =
-    fits-ranged b _ _ _ (λ t. let u = up-to 24 x t in let p = h .1 in (omega arith, p, low-set ds f x (h .2) (u .1)))
+    fits-ranged b _ _ _ (λ t. let u = up-to mostSettings x t in let p = h .1 in (omega arith, p, low-set ds f x (h .2) (u .1)))
 fits-step b n (Setting f rest floor) ds x h =
     fits-ranged b _ _ ds (λ _. fits-ordered b _ _ ds (λ _.
     fits-pick b (eqb rest 0) (afterField n f) (Wants n (Setting f (rest - 1) (x + 1))) ds
@@ -242,26 +244,26 @@ pub first-bytes : (s : List ℕ) (k : ℕ) → 32224 ≤ k → refusal (ofBytes 
 first-bytes s k h = go (ltb k (length s)) refl
   where
     go : (t : Bool) → ltb k (length s) ≡ t → refusal (ofBytes (take k s)) ≡ refusal (ofBytes s)
-    go true e = let l = ltb-true k (length s) e in judged-alike 8055 start noCounts _ _ (omega arith, tt, low-none 24) (agree 8055 s k 0 (omega arith) (omega arith))
+    go true e = let l = ltb-true k (length s) e in judged-alike mostNumbers start noCounts _ _ (omega arith, tt, low-none mostFields) (agree mostNumbers s k 0 (omega arith) (omega arith))
     go false e = ap (λ (l : List ℕ). refusal (ofBytes l)) (take-all k s (ltb-false k (length s) e))
 
 -- So the program, which reads 32,768 bytes, answers as open does to the whole input.
 abbrev pub inputBytes : ℕ
 inputBytes = 32768
 
-pub later-bytes : (s before : List ℕ) → ((k : ℕ) → getD s k 0 < 256) → 24 ≤ length before
+pub later-bytes : (s before : List ℕ) → ((k : ℕ) → getD s k 0 < 256) → offersWords ≤ length before
     → opening (take inputBytes s) (fieldsOf (listOf (take inputBytes s))) before ≡ opening s (fieldsOf (listOf s)) before
 later-bytes s before h l = go (ltb inputBytes (length s)) refl
   where
-    long : inputBytes < length s → eqb (refusal (ofBytes s)) 0 ≡ false
-    long k = ne-eqb (refusal (ofBytes s)) 0 (λ (z : refusal (ofBytes s) ≡ 0). omega (arith, most-sheet-bytes s h z))
+    long : inputBytes < length s → refusal (ofBytes s) ≡ 0 → ⊥
+    long k z = omega (arith, most-sheet-bytes s h z)
 
     go : (t : Bool) → ltb inputBytes (length s) ≡ t
         → opening (take inputBytes s) (fieldsOf (listOf (take inputBytes s))) before ≡ opening s (fieldsOf (listOf s)) before
     go true e =
         let r = long (ltb-true inputBytes (length s) e) in
         let q = first-bytes s inputBytes (omega arith) in
-        opening-refused (take inputBytes s) (fieldsOf (listOf (take inputBytes s))) before l (ap (λ (k : ℕ). eqb k 0) q ∙ r)
-        ∙ ap {B = Answer} (λ (k : ℕ). record { number = k; session = empty; offers = before }) q
+        opening-refused (take inputBytes s) (fieldsOf (listOf (take inputBytes s))) before l (λ z. r (sym q ∙ z))
+        ∙ ap {B = CallResult} (λ (k : ℕ). record { number = k; session = freshSession; offers = before }) q
         ∙ sym (opening-refused s (fieldsOf (listOf s)) before l r)
     go false e = ap (λ (x : List ℕ). opening x (fieldsOf (listOf x)) before) (take-all inputBytes s (ltb-false inputBytes (length s) e))

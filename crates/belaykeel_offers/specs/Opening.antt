@@ -5,59 +5,53 @@ use mathlib.Core.List.{List, [], _∷_}
 use Prim.Native.Nat.{ℕ, _≤_}
 use native.Mathlib.Omega.{arith}
 use lib.Dec.{eqb}
-use lib.ListN.{length, take, replicate}
-use borrow.Author.Tests.{eq-eqb, le-ltb}
+use lib.ListN.{length, take}
+use borrow.Author.Tests.{eq-eqb, ne-eqb, le-ltb}
 use Rattle.masks.specs.Pick.{pick-true, pick-false}
-use Rattle.limits.specs.Limits.{mostNumbers}
+use Rattle.limits.specs.Limits.{mostNumbers, offersWords, rowsWords, memoryWords}
 use Rattle.sheet.specs.Judge.{Accepted, Gives, refusal, numbers, ofBytes, reading, answered}
 use Rattle.accepted.specs.Parts.{fieldsOf}
 use Rattle.accepted.specs.Reads.{read-refused, read-none, read-front, read-ends, front-accepted}
 use Rattle.sheet.specs.declared.answer.Answer.{Answer as Read}
 use Rattle.ledger.specs.declared.Call.the-variants.{Open}
-use Rattle.ledger.specs.Ledger.{Given, number, tooShort}
+use Rattle.ledger.specs.Ledger.{Given, number, spaceShort}
+use Rattle.ledger.specs.Judging.{number-sheet}
 use Rattle.session.specs.declared.Session.{Session}
 use Rattle.session.specs.View.{view}
-use Rattle.answering.specs.Answer.{Answer, answer, Answers}
+use Rattle.session.specs.Steps.{freshSession}
+use Rattle.answering.specs.Answer.{Spaces, CallResult, result, Answers}
 
 abbrev pub rising : List ℕ
 rising = 0 ∷ 1 ∷ 2 ∷ 3 ∷ 4 ∷ 5 ∷ 6 ∷ 7 ∷ 8 ∷ 9 ∷ 10 ∷ 11 ∷ 12 ∷ 13 ∷ 14 ∷ 15 ∷ 16 ∷ 17 ∷ 18 ∷ 19 ∷ 20 ∷ 21 ∷ 22 ∷ 23 ∷ []
 
--- no decisions, no events
-abbrev pub empty : Session
-empty =
-    record {
-      choices = replicate 24 0;
-      strikes = replicate 24 0;
-      events = replicate 64 (record { kind = 0; field = 0; position = 0 });
-      count = 0;
-    }
-
 -- what open is given beside the session: a sheet, its n fields in rising order, and an offers list of so many words
 abbrev pub givenTo : (sheet : List ℕ) (n words : ℕ) → Given
-givenTo sheet n words = record { sheet = sheet; engine = 1; order = take n rising; offers = words; rows = 13248; memory = 13824 }
+givenTo sheet n words = record { sheet = sheet; engine = 1; order = take n rising; offers = words; rows = rowsWords; memory = memoryWords }
 
 -- What open answers, over the offers list `before`.
-abbrev pub opening : (sheet : List ℕ) (n : ℕ) (before : List ℕ) → Answer
-opening sheet n before = answer (givenTo sheet n (length before)) Open empty before
+abbrev pub opening : (sheet : List ℕ) (n : ℕ) (before : List ℕ) → CallResult
+opening sheet n before = result (givenTo sheet n (length before)) Open freshSession before
 
 -- The call's promise in these words.
-pub opening-is : (sheet : List ℕ) (n : ℕ) (before rows memory : List ℕ) (s : Session) (k : ℕ) (s′ : Session) (after rows′ memory′ : List ℕ)
-    → s ≡ empty → length rows ≡ 13248 → length memory ≡ 13824
-    → Answers Open s sheet 1 (take n rising) before rows memory k s′ after rows′ memory′
-    → (k ≡ opening sheet n before .number) × (after ≡ opening sheet n before .offers)
-opening-is sheet n before rows memory s k s′ after rows′ memory′ e r m w = (ap (λ (a : Answer). a .number) same, ap (λ (a : Answer). a .offers) same)
+pub opening-is : (sheet : List ℕ) (n : ℕ) (lent : Spaces) (s : Session) (k : ℕ) (s′ : Session) (left : Spaces)
+    → s ≡ freshSession → length (lent .rows) ≡ rowsWords → length (lent .memory) ≡ memoryWords → Answers Open s sheet 1 (take n rising) lent k s′ left
+    → (k ≡ opening sheet n (lent .offers) .number) × (left .offers ≡ opening sheet n (lent .offers) .offers)
+opening-is sheet n lent s k s′ left e r m w = (ap (λ (a : CallResult). a .number) same, ap (λ (a : CallResult). a .offers) same)
   where
-    same : record { number = k; session = s′; offers = after } ≡ opening sheet n before
+    same : record { number = k; session = s′; offers = left .offers } ≡ opening sheet n (lent .offers)
     same = rw (r, m, e) at (w .answers)
 
 -- a sheet that is refused by 1 to 5
-pub opening-refused : (sheet : List ℕ) (n : ℕ) (before : List ℕ) → 24 ≤ length before → eqb (refusal (ofBytes sheet)) 0 ≡ false
-    → opening sheet n before ≡ record { number = refusal (ofBytes sheet); session = empty; offers = before }
-unfolding answer number tooShort
-opening-refused sheet n before l e = rw number-is (pick-false _ _ _ e)
+pub opening-refused : (sheet : List ℕ) (n : ℕ) (before : List ℕ) → offersWords ≤ length before → (refusal (ofBytes sheet) ≡ 0 → ⊥)
+    → opening sheet n before ≡ record { number = refusal (ofBytes sheet); session = freshSession; offers = before }
+unfolding result
+opening-refused sheet n before l e = rw (sym number-is) (pick-false _ _ _ (ne-eqb _ 0 e))
   where
-    number-is : number (givenTo sheet n (length before)) Open (view empty) ≡ refusal (ofBytes sheet)
-    number-is = pick-false _ _ _ (ap (λ (b : Bool). b || false) (le-ltb (length before) 24 l)) ∙ pick-false _ _ _ e
+    roomy : spaceShort (givenTo sheet n (length before)) ≡ false
+    roomy = unfold spaceShort in ap (λ (b : Bool). b || false) (le-ltb (length before) offersWords l)
+
+    number-is : refusal (ofBytes sheet) ≡ number (givenTo sheet n (length before)) Open (view freshSession)
+    number-is = number-sheet (givenTo sheet n (length before)) Open (view freshSession) roomy (refusal (ofBytes sheet)) e refl
 
 -- the list of the numbers of a sheet
 abbrev pub listOf : List ℕ → List ℕ
@@ -75,12 +69,12 @@ module _ (sheet list : List ℕ) (room : mostNumbers ≤ length list) (r : Read)
   -- the sheet is refused by 1 to 5
   module _ (n : r .number ≡ 0 → ⊥) where
     -- open's number is the same
-    pub opened-refused : (before : List ℕ) → 24 ≤ length before → Opened sheet before r front before
+    pub opened-refused : (before : List ℕ) → offersWords ≤ length before → Opened sheet before r front before
     opened-refused before l =
-        let same = opening-refused sheet (fieldsOf (listOf sheet)) before l (read-refused sheet list room r front g n .1) in
+        let same = opening-refused sheet (fieldsOf (listOf sheet)) before l (λ z. n (read-refused sheet list room r front g n .0 ∙ z)) in
         record {
-          number = read-refused sheet list room r front g n .0 ∙ sym (ap (λ (a : Answer). a .number) same);
-          offers = sym (ap (λ (a : Answer). a .offers) same);
+          number = read-refused sheet list room r front g n .0 ∙ sym (ap (λ (a : CallResult). a .number) same);
+          offers = sym (ap (λ (a : CallResult). a .offers) same);
           numbers = λ z. absurd (n z);
           accepted = λ z. absurd (n z);
           ends = omega (arith, read-none sheet list room r front g n);

@@ -3,18 +3,20 @@
 ghost use mathlib.Core.Path.{_≡_};
 ghost use Prim.Native.Nat.{_<_, _≤_};
 ghost use lib.ListN.{length};
-ghost use Rattle.limits.specs.Limits.{mostNumbers};
+ghost use Rattle.limits.specs.Limits.{mostFields, mostNumbers, offersWords};
 ghost use Rattle.sheet.specs.Judge.{Accepted};
 ghost use Rattle.accepted.specs.Parts.{Field, countOf};
-ghost use Rattle.belaykeel_offers.specs.Opening.{empty, opening, Opened};
+ghost use Rattle.belaykeel_offers.specs.Opening.{opening, Opened};
 use accepted::parts;
+use calls::open;
 use libc::STDIN_FILENO;
 use libc::STDOUT_FILENO;
+use limits::MEMORY_WORDS;
 use limits::MOST_NUMBERS;
+use limits::OFFERS_WORDS;
+use limits::ROWS_WORDS;
 use masks::has_bit;
-use session::Event;
-use session::Session;
-use session_calls::open;
+use session::fresh;
 use sheet::answer::Answer;
 use sheet::answer::answered;
 use sheet::reading::read;
@@ -22,41 +24,21 @@ use sheet::reading::read;
 // What comes later decides nothing: `later-bytes` in specs/Input.antt.
 const INPUT_BYTES: usize = 32768;
 
-const ROWS_WORDS: usize = 13248;
-
-const MEMORY_WORDS: usize = 13824;
-
 // SAC-1.
 const ENGINE: u32 = 1;
 
-// No decisions, no events.
-fn empty() -> Session
-    ensures { λ r. ⌜ r ≡ empty ⌝ }
-{
-    let none = Event {
-        kind: 0,
-        field: 0,
-        position: 0,
-    };
-    Session {
-        choices: [0u32; 24],
-        strikes: [0u32; 24],
-        events: [none; 64],
-        count: 0,
-    }
-}
-
 // Opens the sheet with its n fields in rising order.
-fn open_rising(sheet: &[u8], n: usize, offers: &mut [u32; 24]) -> u32
-    requires { ⌜ n ≤ 24 ⌝ }
-    ensures { λ r. ⌜ (r ≡ opening (now (sheet .entry)) n (now (offers .entry)) .number) × (now (offers .exit) ≡ opening (now (sheet .entry)) n (now (offers .entry)) .offers) ⌝ }
+fn open_rising(sheet: &[u8], n: usize, offers: &mut [u32; OFFERS_WORDS]) -> u32
+    requires { ⌜ n ≤ mostFields ⌝ }
+    ensures { λ r. ⌜ (r ≡ opening (now (sheet .entry)) n (now (offers .entry)) .number)
+        × (now (offers .exit) ≡ opening (now (sheet .entry)) n (now (offers .entry)) .offers) ⌝ }
 {
     let rising: &[u8] =
         b"\x00\x01\x02\x03\x04\x05\x06\x07\x08\x09\x0A\x0B\x0C\x0D\x0E\x0F\x10\x11\x12\x13\x14\x15\x16\x17";
     let mut rows = [0u32; ROWS_WORDS];
     let mut memory = [0u32; MEMORY_WORDS];
     let out = open(
-        empty(),
+        fresh(),
         sheet,
         ENGINE,
         &rising[..n],
@@ -68,8 +50,8 @@ fn open_rising(sheet: &[u8], n: usize, offers: &mut [u32; 24]) -> u32
 }
 
 // The sheet's numbers, and what open answers.
-fn opened(sheet: &[u8], numbers: &mut [u32], offers: &mut [u32; 24]) -> Answer
-    requires { ⌜ (mostNumbers ≤ length (now numbers)) × (24 ≤ length (now offers)) ⌝ }
+fn opened(sheet: &[u8], numbers: &mut [u32], offers: &mut [u32; OFFERS_WORDS]) -> Answer
+    requires { ⌜ (mostNumbers ≤ length (now numbers)) × (offersWords ≤ length (now offers)) ⌝ }
     ensures { λ r. ⌜ Opened (now (sheet .entry)) (now (offers .entry)) r (now (numbers .exit)) (now (offers .exit)) ⌝ }
 {
     let found = read(sheet, numbers);
@@ -112,7 +94,7 @@ fn print_field(numbers: &[u32], f: usize, mask: u32)
     io::write_all(STDOUT_FILENO, b"\n");
 }
 
-fn print_fields(numbers: &[u32], offers: &[u32; 24])
+fn print_fields(numbers: &[u32], offers: &[u32; OFFERS_WORDS])
     requires { ⌜ Accepted (now numbers) ⌝ }
 {
     let n = parts::fields(numbers);
@@ -126,7 +108,7 @@ fn print_fields(numbers: &[u32], offers: &[u32; 24])
 // The offers of a sheet, or its refusal.
 fn print_offers(sheet: &[u8]) {
     let mut numbers = [0u32; MOST_NUMBERS];
-    let mut offers = [0u32; 24];
+    let mut offers = [0u32; OFFERS_WORDS];
     let answer = opened(sheet, &mut numbers, &mut offers);
     if answer.number != 0 {
         print_refused(answer.number);

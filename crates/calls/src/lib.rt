@@ -15,7 +15,7 @@ use session::Outcome;
 use session::Session;
 
 // The call that changes the decisions by an event of a kind.
-fn decides(kind: u32, field: u32, position: u32) -> Call
+pub fn decides(kind: u32, field: u32, position: u32) -> Call
     ensures { λ r. ⌜ r ≡ decides kind field position ⌝ }
 {
     let e = Event {

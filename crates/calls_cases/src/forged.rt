@@ -1,17 +1,19 @@
 // Sessions that no call has made.
 use super::line;
-use super::run::fresh;
 use super::script::one;
 use super::script::play;
 use ledger::Call;
-use session::Event;
+use ledger::Event;
 use session::Session;
+use session::fresh;
 
 // Masks of choices and strikes of field 0, a first event, and a count of events.
 fn forged(choices: u32, strikes: u32, event: Event, count: u32) -> Session {
     let mut s = fresh();
-    s.choices[0] = choices;
-    s.strikes[0] = strikes;
+    let mut d = s.decisions;
+    d.choices[0] = choices;
+    d.strikes[0] = strikes;
+    s.decisions = d;
     s.events[0] = event;
     s.count = count;
     s
@@ -33,7 +35,9 @@ pub fn overfull() -> Session {
 // A strike of position 31 in field 23.
 fn far() -> Session {
     let mut s = fresh();
-    s.strikes[23] = 2147483648;
+    let mut d = s.decisions;
+    d.strikes[23] = 2147483648;
+    s.decisions = d;
     s
 }
 

@@ -1,5 +1,6 @@
 // The lines that the cases print.
 use libc::STDOUT_FILENO;
+use limits::OFFERS_WORDS;
 use session::Session;
 
 pub fn text(s: &[u8]) {
@@ -32,9 +33,10 @@ fn two(x: u32, y: u32) {
 }
 
 // What a call answered.
-pub fn answered(answer: u32, offers: &[u32; 24], session: Session) {
-    let choices = session.choices;
-    let strikes = session.strikes;
+pub fn answered(answer: u32, offers: &[u32; OFFERS_WORDS], session: Session) {
+    let d = session.decisions;
+    let choices = d.choices;
+    let strikes = d.strikes;
     text(b": ");
     number(answer);
     two(offers[0], offers[1]);

@@ -6,11 +6,13 @@ mod refused; // refused.rt: spaces, sheets, arguments, reaches and orders
 mod run; // run.rt: a call run on a sheet
 mod script; // script.rt: calls one after another, written as text
 
-use ledger::Call;
-use run::fresh;
+use calls::decides;
+use ledger::STRIKE;
+use ledger::WITHDRAW_STRIKE;
 use run::quiet;
 use script::play;
 use session::Session;
+use session::fresh;
 
 // Sheet D by an engine: a strike withdrawn before the choice made after it, and single decisions.
 fn sheet_d(engine: u32) {
@@ -24,8 +26,8 @@ fn sixty_two() -> Session {
     let mut s = fresh();
     let mut k: u32 = 0;
     while k < 31 {
-        let struck = quiet(Call::Strike(0, 2), s);
-        let withdrawn = quiet(Call::WithdrawStrike(0, 2), struck);
+        let struck = quiet(decides(STRIKE, 0, 2), s);
+        let withdrawn = quiet(decides(WITHDRAW_STRIKE, 0, 2), struck);
         s = withdrawn;
         k += 1;
     }

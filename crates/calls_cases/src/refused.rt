@@ -1,14 +1,23 @@
 // Spaces that are too short, sheets that are refused, and arguments, engines and orders that are not as they should be.
 ghost use Prim.Native.Nat.{_≤_};
+ghost use Rattle.limits.specs.Limits.{offersWords, rowsWords, memoryWords};
 use super::forged::overfull;
 use super::line;
 use super::run;
-use super::run::fresh;
 use super::run::long_list;
 use super::run::on_d;
 use super::run::on_sheet;
 use super::script::one;
+use calls::decides;
+use ledger::CHOOSE;
 use ledger::Call;
+use ledger::STRIKE;
+use ledger::WITHDRAW_CHOICE;
+use ledger::WITHDRAW_STRIKE;
+use limits::MEMORY_WORDS;
+use limits::OFFERS_WORDS;
+use limits::ROWS_WORDS;
+use session::fresh;
 
 // Open on a sheet that 2 would refuse, with every word of the spaces 5 before it.
 fn short_call(name: &[u8], offers: &mut [u32], rows: &mut [u32], memory: &mut [u32]) {
@@ -32,11 +41,11 @@ fn short_call(name: &[u8], offers: &mut [u32], rows: &mut [u32], memory: &mut [u
 
 // With spaces of these lengths.
 fn short(name: &[u8], list: usize, first: usize, second: usize)
-    requires { ⌜ (list ≤ 24) × (first ≤ 13248) × (second ≤ 13824) ⌝ }
+    requires { ⌜ (list ≤ offersWords) × (first ≤ rowsWords) × (second ≤ memoryWords) ⌝ }
 {
-    let mut offers = [5u32; 24];
-    let mut rows = [5u32; run::ROWS_WORDS];
-    let mut memory = [5u32; run::MEMORY_WORDS];
+    let mut offers = [5u32; OFFERS_WORDS];
+    let mut rows = [5u32; ROWS_WORDS];
+    let mut memory = [5u32; MEMORY_WORDS];
     short_call(
         name,
         &mut offers[..list],
@@ -47,13 +56,13 @@ fn short(name: &[u8], list: usize, first: usize, second: usize)
 
 fn spaces() {
     line::heading(b"-- 6, before 2: offers, rows, memory");
-    short(b"offers of 23: ", 23, 13248, 13824);
-    short(b"rows of 13247: ", 24, 13247, 13824);
-    short(b"memory of 13823: ", 24, 13248, 13823);
+    short(b"offers of 23: ", 23, ROWS_WORDS, MEMORY_WORDS);
+    short(b"rows of 13247: ", OFFERS_WORDS, 13247, MEMORY_WORDS);
+    short(b"memory of 13823: ", OFFERS_WORDS, ROWS_WORDS, 13823);
     short(b"no words: ", 0, 0, 0);
     line::heading(b"-- an offers list of 30 words");
     long_list(b"open: ", Call::Open);
-    long_list(b"choose 0/0: ", Call::Choose(0, 0));
+    long_list(b"choose 0/0: ", decides(CHOOSE, 0, 0));
 }
 
 // Show of a malformed session, with engine 0 and no order.
@@ -112,7 +121,7 @@ fn orders() {
     order(b"0 2", 3, b"\x00\x02");
     order(b"0 1 0", 1, b"\x00\x01\x00");
     line::text(b"choose 0/0, 1 1");
-    on_d(Call::Choose(0, 0), fresh(), 1, b"\x01\x01");
+    on_d(decides(CHOOSE, 0, 0), fresh(), 1, b"\x01\x01");
 }
 
 fn engine(x: u32) {
@@ -124,12 +133,12 @@ fn engine(x: u32) {
 
 fn arguments() {
     line::heading(b"-- 7");
-    one(Call::Strike(2, 0), fresh(), 1);
-    one(Call::Strike(0, 3), fresh(), 1);
-    one(Call::Choose(24, 0), fresh(), 1);
-    one(Call::Choose(0, 4294967295), fresh(), 1);
-    one(Call::WithdrawStrike(0, 32), fresh(), 1);
-    one(Call::WithdrawChoice(4294967295, 0), fresh(), 1);
+    one(decides(STRIKE, 2, 0), fresh(), 1);
+    one(decides(STRIKE, 0, 3), fresh(), 1);
+    one(decides(CHOOSE, 24, 0), fresh(), 1);
+    one(decides(CHOOSE, 0, 4294967295), fresh(), 1);
+    one(decides(WITHDRAW_STRIKE, 0, 32), fresh(), 1);
+    one(decides(WITHDRAW_CHOICE, 4294967295, 0), fresh(), 1);
     engine(0);
     engine(4);
     engine(4294967295);

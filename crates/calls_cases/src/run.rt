@@ -1,40 +1,49 @@
 // A call run on a sheet.
 use super::line;
-use decision_calls::choose;
-use decision_calls::strike;
-use decision_calls::withdraw_choice;
-use decision_calls::withdraw_strike;
+use calls::back;
+use calls::choose;
+use calls::coil_on;
+use calls::open;
+use calls::show;
+use calls::strike;
+use calls::withdraw_choice;
+use calls::withdraw_strike;
+use ledger::CHOOSE;
 use ledger::Call;
-use session::Event;
+use ledger::Event;
+use ledger::STRIKE;
+use ledger::WITHDRAW_CHOICE;
+use limits::MEMORY_WORDS;
+use limits::OFFERS_WORDS;
+use limits::ROWS_WORDS;
 use session::Outcome;
 use session::Session;
-use session_calls::back;
-use session_calls::coil_on;
-use session_calls::open;
-use session_calls::show;
-
-// The least words of the work spaces.
-pub const ROWS_WORDS: usize = 13248;
-
-pub const MEMORY_WORDS: usize = 13824;
+use session::fresh;
 
 // What each word of the offers list and of the work spaces is before a call.
 pub const OFFERS_BEFORE: u32 = 9;
 
 pub const ROOM_BEFORE: u32 = 4294967295;
 
-// No decisions, no events.
-pub fn fresh() -> Session {
-    let none = Event {
-        kind: 0,
-        field: 0,
-        position: 0,
-    };
-    Session {
-        choices: [0u32; 24],
-        strikes: [0u32; 24],
-        events: [none; 64],
-        count: 0,
+// The call by the kind of its event.
+fn decide(
+    e: Event,
+    s: Session,
+    sheet: &[u8],
+    engine: u32,
+    order: &[u8],
+    offers: &mut [u32],
+    rows: &mut [u32],
+    memory: &mut [u32],
+) -> Outcome {
+    let kind = e.kind;
+    let f = e.field;
+    let v = e.position;
+    match kind {
+        CHOOSE => choose(s, sheet, engine, order, f, v, offers, rows, memory),
+        STRIKE => strike(s, sheet, engine, order, f, v, offers, rows, memory),
+        WITHDRAW_CHOICE => withdraw_choice(s, sheet, engine, order, f, v, offers, rows, memory),
+        _ => withdraw_strike(s, sheet, engine, order, f, v, offers, rows, memory),
     }
 }
 
@@ -52,14 +61,7 @@ pub fn call(
     match what {
         Call::Open => open(s, sheet, engine, order, offers, rows, memory),
         Call::Show => show(s, sheet, engine, order, offers, rows, memory),
-        Call::Choose(f, v) => choose(s, sheet, engine, order, f, v, offers, rows, memory),
-        Call::Strike(f, v) => strike(s, sheet, engine, order, f, v, offers, rows, memory),
-        Call::WithdrawChoice(f, v) => {
-            withdraw_choice(s, sheet, engine, order, f, v, offers, rows, memory)
-        }
-        Call::WithdrawStrike(f, v) => {
-            withdraw_strike(s, sheet, engine, order, f, v, offers, rows, memory)
-        }
+        Call::Decide(e) => decide(e, s, sheet, engine, order, offers, rows, memory),
         Call::Back => back(s, sheet, engine, order, offers, rows, memory),
         Call::CoilOn => coil_on(s, sheet, engine, order, offers, rows, memory),
     }
@@ -90,7 +92,7 @@ fn roomy(
 
 // A call on any sheet, with any engine and order, and the end of its line. The session after it.
 pub fn on_sheet(what: Call, s: Session, sheet: &[u8], engine: u32, order: &[u8]) -> Session {
-    let mut offers = [OFFERS_BEFORE; 24];
+    let mut offers = [OFFERS_BEFORE; OFFERS_WORDS];
     let out = roomy(what, s, sheet, engine, order, &mut offers);
     line::answered(out.number, &offers, out.session);
     out.session
@@ -120,7 +122,7 @@ fn call_d(what: Call, s: Session, offers: &mut [u32]) -> Outcome {
 }
 
 pub fn quiet(what: Call, s: Session) -> Session {
-    let mut offers = [OFFERS_BEFORE; 24];
+    let mut offers = [OFFERS_BEFORE; OFFERS_WORDS];
     let out = call_d(what, s, &mut offers);
     out.session
 }

@@ -1,17 +1,23 @@
 // Calls one after another, written as text. A call has four bytes: a letter, the digits of a field and a position, and a blank.
 use super::line;
 use super::run::on_d;
+use calls::decides;
+use ledger::CHOOSE;
 use ledger::Call;
+use ledger::Event;
+use ledger::STRIKE;
+use ledger::WITHDRAW_CHOICE;
+use ledger::WITHDRAW_STRIKE;
 use session::Session;
 
 // o open, h show, c choose, s strike, C withdraw choice, S withdraw strike, b back, n coil-on.
 fn call_of(letter: u8, f: u32, v: u32) -> Call {
     match letter {
         b'o' => Call::Open,
-        b'c' => Call::Choose(f, v),
-        b's' => Call::Strike(f, v),
-        b'C' => Call::WithdrawChoice(f, v),
-        b'S' => Call::WithdrawStrike(f, v),
+        b'c' => decides(CHOOSE, f, v),
+        b's' => decides(STRIKE, f, v),
+        b'C' => decides(WITHDRAW_CHOICE, f, v),
+        b'S' => decides(WITHDRAW_STRIKE, f, v),
         b'b' => Call::Back,
         b'n' => Call::CoilOn,
         _ => Call::Show,
@@ -26,15 +32,23 @@ fn setting(name: &[u8], f: u32, v: u32) {
     line::number(v);
 }
 
+// What a call does to the decisions.
+fn decision(e: Event) {
+    let kind = e.kind;
+    match kind {
+        CHOOSE => setting(b"choose ", e.field, e.position),
+        STRIKE => setting(b"strike ", e.field, e.position),
+        WITHDRAW_CHOICE => setting(b"withdraw choice ", e.field, e.position),
+        _ => setting(b"withdraw strike ", e.field, e.position),
+    }
+}
+
 // The call's name, with the setting of its decision.
 pub fn name(call: Call) {
     match call {
         Call::Open => line::text(b"open"),
         Call::Show => line::text(b"show"),
-        Call::Choose(f, v) => setting(b"choose ", f, v),
-        Call::Strike(f, v) => setting(b"strike ", f, v),
-        Call::WithdrawChoice(f, v) => setting(b"withdraw choice ", f, v),
-        Call::WithdrawStrike(f, v) => setting(b"withdraw strike ", f, v),
+        Call::Decide(e) => decision(e),
         Call::Back => line::text(b"back"),
         Call::CoilOn => line::text(b"coil-on"),
     }

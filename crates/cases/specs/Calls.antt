@@ -1,15 +1,16 @@
 -- The sheets and calls that the starred cases speak of. Assumes nothing.
 use mathlib.Core.List.{List, [], _∷_}
 use Prim.Native.Nat.{ℕ}
+use Rattle.limits.specs.Limits.{offersWords, rowsWords, memoryWords}
 use Rattle.sheet.specs.Judge.{numbers, ofBytes}
+use Rattle.accepted.specs.Lists.{tabulate}
 use Rattle.accepted.specs.Parts.{fieldsOf}
 use Rattle.ledger.specs.declared.Call.{Call}
-use Rattle.ledger.specs.Lists.{tabulate}
 use Rattle.ledger.specs.Ledger.{Given, Ledger, number, after}
 
 -- a sheet opened with engine 1, in rising order, with spaces just long enough
 abbrev pub given : List ℕ → Given
-given sheet = record { sheet = sheet; engine = 1; order = tabulate (fieldsOf (numbers (ofBytes sheet))) (λ f. f); offers = 24; rows = 13248; memory = 13824 }
+given sheet = record { sheet = sheet; engine = 1; order = tabulate (fieldsOf (numbers (ofBytes sheet))) (λ f. f); offers = offersWords; rows = rowsWords; memory = memoryWords }
 
 -- the numbers of calls one after the other, and the ledger after the last
 unfoldable pub answers : Given → Ledger → List Call → List ℕ

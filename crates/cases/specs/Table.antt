@@ -6,7 +6,7 @@ use Prim.Native.Nat.{ℕ}
 use Rattle.masks.specs.Tests.{allBelow, someBelow}
 use Rattle.masks.specs.Bits.{bit}
 use Rattle.masks.specs.Masks.{maskOf, keepIn, keepBits, someIn, someBit, countIn, countBits}
-use Rattle.masks.specs.Sets.{only, count, same}
+use Rattle.masks.specs.Sets.{has, only, count, same, pad}
 use Rattle.masks.specs.Settings.{cut, empty, someEmpty}
 use Rattle.masks.specs.Pick.{pick}
 use Rattle.consistency.specs.Largest.{sweep, sweeps, largest}
@@ -17,13 +17,16 @@ use Rattle.consistency.specs.Offers.{noneEmpty, passesOver, passes, offers, wip
 use Rattle.groups.specs.Groups.{groups, numberAt}
 use Rattle.grammar.specs.Grammar.{step as sheetStep}
 use Rattle.sheet.specs.Judge.{judge, numbers, items, ofBytes}
+use Rattle.accepted.specs.Lists.{tabulate}
 use Rattle.accepted.specs.Parts.{fieldStart, ruleStart}
+use Rattle.accepted.specs.Outline.{outlineOf}
 use Rattle.accepted.specs.Cases.{D}
 use Rattle.network.specs.SheetProblem.{runs, pairs, sheetProblem}
 use Rattle.ledger.specs.declared.Call.{Call}
-use Rattle.ledger.specs.declared.Call.the-variants.{Open, Choose, Strike, WithdrawStrike}
-use Rattle.ledger.specs.Lists.{tabulate, occurrences}
-use Rattle.ledger.specs.Ledger.{empty as noLedger, same as sameDecision, inForce, without, reversed, step, starts, startSet, offersOf, wiped, tooShort, onSheet, allOnSheet, reversible, illFormed, malformed, unknownArgument, isOrder, first, judged, causes, number, after}
+use Rattle.ledger.specs.declared.Call.the-variants.{Open}
+use Rattle.ledger.specs.Occurrences.{occurrences}
+use Rattle.ledger.specs.Ledger.{CHOOSE, STRIKE, WITHDRAW-STRIKE, changeBy, decides, sameDecision, inForce, without, opened, backed, step, otherChosen, starts}
+use Rattle.ledger.specs.Ledger.{startSet, offersOf, wiped, spaceShort, onSheet, allOnSheet, reversible, malformed, noEngine, isOrder, first, judged, causes, number, after}
 use Rattle.cases.specs.Problems.{allDifferent, ring}
 use Rattle.cases.specs.Calls.{given, answers, afterAll, single, three, threeAndOne, five}
 
@@ -44,15 +47,15 @@ agree false b = not b
 
 -- It opens all that it computes with, so a theorem says `unfolding allHold` and no more.
 unfoldable pub holds : Case → Bool
-unfolding agree wipedOut offers passes passesOver noneEmpty neighbourhood fieldsWithin widen allFields closing supported supportedBy partner largest sweeps sweep someEmpty empty cut same count only countBits countIn someBit someIn keepBits keepIn maskOf bit someBelow allBelow answers afterAll tabulate occurrences number after first causes judged malformed illFormed unknownArgument isOrder tooShort reversible allOnSheet onSheet inForce sameDecision without reversed step starts startSet offersOf wiped judge numbers items numberAt groups pick sheetStep fieldStart ruleStart sheetProblem runs pairs
+unfolding agree wipedOut offers passes passesOver noneEmpty neighbourhood fieldsWithin widen allFields closing supported supportedBy partner largest sweeps sweep someEmpty empty cut same count only countBits countIn someBit someIn keepBits keepIn maskOf bit has pad someBelow allBelow answers afterAll tabulate occurrences number after first causes judged malformed noEngine isOrder spaceShort reversible allOnSheet onSheet inForce sameDecision without changeBy backed step otherChosen starts startSet offersOf wiped outlineOf judge numbers items numberAt groups pick sheetStep fieldStart ruleStart sheetProblem runs pairs
 holds (consistency P k S closed offered wiped) =
     same (closing P (allFields P) S) closed && same (offers P k S) offered && agree (wipedOut P k S) wiped
 holds (closes sheet S closed) =
     let P = sheetProblem (numbers (ofBytes sheet)) in
     same (closing P (allFields P) S) closed
-holds (calls sheet cs ks) = same (answers (given sheet) noLedger cs) ks
+holds (calls sheet cs ks) = same (answers (given sheet) opened cs) ks
 holds (shown sheet cs ks masks) =
-    same (answers (given sheet) noLedger cs) ks && same (offersOf (numbers (ofBytes sheet)) (afterAll (given sheet) noLedger cs .decisions)) masks
+    same (answers (given sheet) opened cs) ks && same (offersOf (numbers (ofBytes sheet)) (afterAll (given sheet) opened cs)) masks
 
 unfoldable pub allHold : List Case → Bool
 unfolding holds
@@ -71,11 +74,11 @@ table =
     ∷ consistency (allDifferent 3 4) 1 (3 ∷ 3 ∷ 3 ∷ 3 ∷ []) (3 ∷ 3 ∷ 3 ∷ 3 ∷ []) (0 ∷ 0 ∷ 0 ∷ 3 ∷ []) true
     -- sheet D
     ∷ shown D (Open ∷ []) (0 ∷ []) (6 ∷ 3 ∷ [])
-    ∷ shown D (Open ∷ Strike 0 2 ∷ []) (0 ∷ 0 ∷ []) (2 ∷ 1 ∷ [])
-    ∷ calls D (Open ∷ Strike 0 2 ∷ Choose 1 1 ∷ []) (0 ∷ 0 ∷ 14 ∷ [])
-    ∷ shown D (Open ∷ Strike 0 2 ∷ Choose 1 0 ∷ WithdrawStrike 0 2 ∷ []) (0 ∷ 0 ∷ 0 ∷ 0 ∷ []) (6 ∷ 1 ∷ [])
-    ∷ calls D (Open ∷ Choose 0 0 ∷ []) (0 ∷ 14 ∷ [])
-    ∷ shown D (Open ∷ Strike 0 0 ∷ []) (0 ∷ 0 ∷ []) (6 ∷ 3 ∷ [])
+    ∷ shown D (Open ∷ decides STRIKE 0 2 ∷ []) (0 ∷ 0 ∷ []) (2 ∷ 1 ∷ [])
+    ∷ calls D (Open ∷ decides STRIKE 0 2 ∷ decides CHOOSE 1 1 ∷ []) (0 ∷ 0 ∷ 14 ∷ [])
+    ∷ shown D (Open ∷ decides STRIKE 0 2 ∷ decides CHOOSE 1 0 ∷ decides WITHDRAW-STRIKE 0 2 ∷ []) (0 ∷ 0 ∷ 0 ∷ 0 ∷ []) (6 ∷ 1 ∷ [])
+    ∷ calls D (Open ∷ decides CHOOSE 0 0 ∷ []) (0 ∷ 14 ∷ [])
+    ∷ shown D (Open ∷ decides STRIKE 0 0 ∷ []) (0 ∷ 0 ∷ []) (6 ∷ 3 ∷ [])
     -- one field, one setting
     ∷ shown single (Open ∷ []) (0 ∷ []) (1 ∷ [])
     -- the problems above, as sheets

@@ -22,6 +22,10 @@ use Rattle.session.specs.Form.{alike-changed-in, alike-reverted-in}
 abbrev pub noDecisions : Decisions
 noDecisions = record { choices = replicate mostFields 0; strikes = replicate mostFields 0 }
 
+-- no decisions, no events
+abbrev pub freshSession : Session
+freshSession = record { decisions = noDecisions; events = replicate mostEvents noEvent; count = 0 }
+
 -- other decisions and no events; all places of the events as they are
 abbrev pub begun : Session → Decisions → Session
 begun s d = withEvents (s .events) 0 (withDecisions d s)

@@ -3,9 +3,12 @@ pub mod decisions; // decisions.rt: a decision held, added, withdrawn; an event 
 pub mod form; // form.rt: whether a session is malformed
 pub mod start; // start.rt: the start set
 pub mod steps; // steps.rt: the session after a call
+ghost use mathlib.Core.Path.{_≡_};
+ghost use Rattle.session.specs.Steps.{freshSession};
 use decisions::Decisions;
 use ledger::Event;
 use limits::EVENTS;
+use limits::FIELDS;
 
 // The decisions in force, and events, of which the first `count` have happened, the oldest first. No offers.
 #[repr(C)]
@@ -19,4 +22,25 @@ pub struct Session {
 pub struct Outcome {
     pub number: u32,
     pub session: Session,
+}
+
+// No decisions, no events.
+pub fn fresh() -> Session
+    ensures { λ r. ⌜ r ≡ freshSession ⌝ }
+{
+    let none = [0u32; FIELDS];
+    let decisions = Decisions {
+        choices: none,
+        strikes: none,
+    };
+    let event = Event {
+        kind: 0,
+        field: 0,
+        position: 0,
+    };
+    Session {
+        decisions,
+        events: [event; EVENTS],
+        count: 0,
+    }
 }

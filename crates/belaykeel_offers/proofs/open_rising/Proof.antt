@@ -1,6 +1,7 @@
 use mathlib.Core.Path.{sym}
 use Prim.Native.Nat.{ℕ}
 use lib.ListN.{length-replicate}
+use Rattle.limits.specs.Limits.{rowsWords, memoryWords}
 use lib.Seq.{length-take-le}
 use borrow.Author.Needs.{needs}
 use denote.Ref.{now}
@@ -14,8 +15,8 @@ slice-aggregate-open c = sym (length-take-le _ _ (c .before .before .before .bef
 returns : tie.Need-returns
 returns c =
     let a = c .before .before .before .before .before .before .before .before .before .before .args in
-    opening-is (now (a .sheet)) (a .n) (now (a .offers)) _ _ _ _ _ _ _ _ (c .before .before .before .before .before .before .before .empty .ensures)
-    (length-replicate {A = ℕ} 13248 0) (length-replicate {A = ℕ} 13824 0) (c .before .before .«open» .ensures)
+    opening-is (now (a .sheet)) (a .n) _ _ _ _ _ (c .before .before .before .before .before .before .before .fresh .ensures)
+    (length-replicate {A = ℕ} rowsWords 0) (length-replicate {A = ℕ} memoryWords 0) (c .before .before .«open» .ensures)
 
 pub open-rising-spec : {M : Type 1} → statement M
 open-rising-spec =

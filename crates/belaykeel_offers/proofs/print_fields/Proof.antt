@@ -1,12 +1,13 @@
 use Prim.Native.Nat.{_-_, _≤_}
 use borrow.Author.Needs.{needs}
 use denote.Ref.{now}
+use Rattle.limits.specs.Limits.{mostFields}
 use Rattle.accepted.specs.Facts.{facts}
 use Rattle.belaykeel_offers.proofs.print_fields.Statement.{statement}
 use Rattle.belaykeel_offers.proofs.print_fields.Tie as tie
 
 abbrev Inv-loop : tie.InvT-loop
-Inv-loop numbers offers n f₀ f = n ≤ 24
+Inv-loop numbers offers n f₀ f = n ≤ mostFields
 
 abbrev μ-loop : tie.MeasureT-loop
 μ-loop numbers offers n f₀ f = n - f
