@@ -127,10 +127,17 @@ module _ (o : Outline) where
   judged-avoids : (c : Call) (engine : ℕ) (order : List ℕ) (l : Ledger) → malformed o l ≡ false → Avoids MALFORMED (judged o c engine order l)
   unfolding judged
   judged-avoids c engine order l f =
-      avoids-++ MALFORMED (sessionCauses o c l) _ (session-avoids MALFORMED o c l (λ e _. never e f))
-      (λ _ z. omega arith, avoids-++ MALFORMED (placeCauses o c) _ (place-avoids MALFORMED o c (λ z. omega arith))
-      (λ _ z. omega arith, (λ _ z. omega arith, step-avoids MALFORMED c l
-      (record { not-10 = λ z. omega arith; not-11 = λ z. omega arith; not-12 = λ z. omega arith; not-13 = λ z. omega arith }))))
+      avoids-++ MALFORMED (sessionCauses o c l) _ (session-avoids MALFORMED o c l (λ e _. never e f)) (
+        λ _ z. omega arith,
+        avoids-++ MALFORMED (placeCauses o c) _ (place-avoids MALFORMED o c (λ z. omega arith)) (
+          λ _ z. omega arith,
+          (
+            λ _ z. omega arith,
+            step-avoids MALFORMED c l
+                (record { not-10 = λ z. omega arith; not-11 = λ z. omega arith; not-12 = λ z. omega arith; not-13 = λ z. omega arith }),
+          ),
+        ),
+      )
 
 module _ (g : Given) (l : Ledger) where
   abbrev o : Outline
@@ -148,6 +155,10 @@ module _ (g : Given) (l : Ledger) where
   -- A call on a ledger that is not malformed does not answer 15.
   pub never-15 : (c : Call) → malformed o l ≡ false → number g c l ≡ MALFORMED → ⊥
   unfolding number causes
-  never-15 c f = first-avoids MALFORMED _ (λ z. omega arith)
-      (λ _ z. omega arith, (λ _ z. let h = refusal-few (ofBytes (g .sheet)) in omega arith,
-      avoids-++ MALFORMED (judged o c (g .engine) (g .order) l) _ (judged-avoids o c (g .engine) (g .order) l f) (λ _ z. omega arith, tt)))
+  never-15 c f = first-avoids MALFORMED _ (λ z. omega arith) (
+    λ _ z. omega arith,
+    (
+      λ _ z. let h = refusal-few (ofBytes (g .sheet)) in omega arith,
+      avoids-++ MALFORMED (judged o c (g .engine) (g .order) l) _ (judged-avoids o c (g .engine) (g .order) l f) (λ _ z. omega arith, tt),
+    ),
+  )

@@ -202,8 +202,11 @@ number-stages : (g : Given) (c : Call) (l : Ledger) → number g c l
     (first (offersCauses (numbers (ofBytes (g .sheet))) (step c l))) (first (judged (outlineOf (numbers (ofBytes (g .sheet)))) c (g .engine) (g .order) l)))
     (first (sheetCauses (g .sheet)))) (first (spaceCauses g))
 unfolding number causes
-number-stages g c l = rw (first-++ (spaceCauses g) _ (space-numbered g c l), first-++ (sheetCauses (g .sheet)) _ (sheet-numbered g c l),
-    first-++ (judged (outlineOf (numbers (ofBytes (g .sheet)))) c (g .engine) (g .order) l) _ (early-numbered g c l))
+number-stages g c l = rw (
+  first-++ (spaceCauses g) _ (space-numbered g c l),
+  first-++ (sheetCauses (g .sheet)) _ (sheet-numbered g c l),
+  first-++ (judged (outlineOf (numbers (ofBytes (g .sheet)))) c (g .engine) (g .order) l) _ (early-numbered g c l),
+)
 
 -- Whatever engine and order a call is given, if it is not refused for them: the same number.
 pub engine-and-order : (g : Given) (engine : ℕ) (order : List ℕ) (c : Call) (l : Ledger) → Admitted (number g c l) → Admitted (number (lending g engine order) c l)

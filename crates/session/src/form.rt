@@ -71,7 +71,12 @@ fn can_revert(outline: Outline, d: Decisions, e: Event) -> bool
 }
 
 // Whether the events can be reversed, from the latest on.
-fn events_reversible(outline: Outline, start: Decisions, events: [Event; EVENTS], count: u32) -> bool
+fn events_reversible(
+    outline: Outline,
+    start: Decisions,
+    events: [Event; EVENTS],
+    count: u32,
+) -> bool
     requires { ⌜ count ≤ mostEvents ⌝ }
     ensures { λ r. ⌜ r ≡ reversible outline (past events count) (decisionsOf start) ⌝ }
 {

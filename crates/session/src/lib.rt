@@ -3,6 +3,7 @@ pub mod decisions; // decisions.rt: a decision held, added, withdrawn; an event 
 pub mod form; // form.rt: whether a session is malformed
 pub mod start; // start.rt: the start set
 pub mod steps; // steps.rt: the session after a call
+
 ghost use mathlib.Core.Path.{_≡_};
 ghost use Rattle.session.specs.Steps.{freshSession};
 use decisions::Decisions;

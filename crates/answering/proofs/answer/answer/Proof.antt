@@ -112,7 +112,7 @@ step-requires : tie.Need-step-requires
 step-requires c κs = steps (c .before .before .before .before .before)
 
 settle-requires : tie.Need-settle-requires
-settle-requires c κs = 
+settle-requires c κs =
     let a = c .before .before .before .before .before .before .before .before .before in
     let b = c .before .before .before .before .before .before in
     let r = room (a .before .before .before .before .before .before .before .before .before) in
@@ -135,7 +135,7 @@ same-length-5 : tie.Need-same-length-5
 same-length-5 c = c .before .before .before .before .before .settle .kept .1 .1 .1 .1 .1 .1 .1 .0 ∙ c .before .before .before .before .before .before .before .before .before .before .before .before .before .before .before .before .before .before .before .before .before .before .take-in .kept .1 .0
 
 returns-4 : tie.Need-returns-4
-returns-4 c = 
+returns-4 c =
     let a = c .before .before .before .before .before .before .before .before .before .before .before .before .before .before .before in
     let s = a .before .before .before .before .before .before .before .before .before .before .before .before .before .before .before .before in
     let p = c .before .before .before .before .before .settle .ensures _ (prepared (c .before .before .before .before .before .before .before .before .before .before .before .before)) in
@@ -151,7 +151,7 @@ same-length-8 : tie.Need-same-length-8
 same-length-8 c = c .before .before .before .before .before .settle .kept .1 .1 .1 .1 .1 .1 .1 .0 ∙ c .before .before .before .before .before .before .before .before .before .before .before .before .before .before .before .before .before .before .before .before .before .before .take-in .kept .1 .0
 
 returns-5 : tie.Need-returns-5
-returns-5 c = 
+returns-5 c =
     let a = c .before .before .before .before .before .before .before .before .before .before .before .before .before .before .before in
     let s = a .before .before .before .before .before .before .before .before .before .before .before .before .before .before .before .before in
     let p = c .before .before .before .before .before .settle .ensures _ (prepared (c .before .before .before .before .before .before .before .before .before .before .before .before)) in

@@ -14,25 +14,25 @@ same-length : tie.Need-same-length
 same-length c = search needs
 
 returns : tie.Need-returns
-returns c = 
+returns c =
     let r = c .before .before .before .before .read in
     let s = c .before .before .before .before .before .before .before .before in
     taken-refused (now (s .args .sheet)) (now (s .args .memory)) (s .pre) _ _ (r .ensures) _ (c .if1 .taken)
 
 slice-reshare-prefix-outline-of : tie.Need-slice-reshare-prefix-outline-of
-slice-reshare-prefix-outline-of c = 
+slice-reshare-prefix-outline-of c =
     let r = c .before .before .before .before .read in
     let s = c .before .before .before .before .before .before .before .before in
     read-ends (now (s .args .sheet)) (now (s .args .memory)) (s .pre) _ _ (r .ensures) (c .if1 .left)
 
 slice-aggregate-outline-of : tie.Need-slice-aggregate-outline-of
-slice-aggregate-outline-of c = 
+slice-aggregate-outline-of c =
     let r = c .before .before .before .before .before .read in
     let s = c .before .before .before .before .before .before .before .before .before in
     sym (length-take-le _ _ (read-ends (now (s .args .sheet)) (now (s .args .memory)) (s .pre) _ _ (r .ensures) (c .before .if1 .left)))
 
 outline-of-requires : tie.Need-outline-of-requires
-outline-of-requires c κs = 
+outline-of-requires c κs =
     let r = c .before .before .before .before .before .read in
     let s = c .before .before .before .before .before .before .before .before .before in
     front-accepted (now (s .args .sheet)) (now (s .args .memory)) (s .pre) _ _ (r .ensures) (c .before .if1 .left)
@@ -41,7 +41,7 @@ same-length-2 : tie.Need-same-length-2
 same-length-2 c = search needs
 
 returns-2 : tie.Need-returns-2
-returns-2 c = 
+returns-2 c =
     let r = c .before .before .before .before .before .before .read in
     let s = c .before .before .before .before .before .before .before .before .before .before in
     taken-read (now (s .args .sheet)) (now (s .args .memory)) (s .pre) _ _ (r .ensures) _ (c .before .before .if1 .left) (c .outline-of .ensures)

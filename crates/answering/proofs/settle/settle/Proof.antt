@@ -14,7 +14,7 @@ turned-requires : tie.Need-turned-requires
 turned-requires c κs = search needs
 
 run-requires : tie.Need-run-requires
-run-requires c κs = 
+run-requires c κs =
     let t = c .before .before .turned .ensures in
     let f = c .before .before .before .forward .ensures in
     let m = c .before .before .before .before .start .ensures in
@@ -26,7 +26,7 @@ same-length c = search needs
 
 returns : tie.Need-returns
 unfolding view
-returns c = 
+returns c =
     let t = c .before .before .before .before .before .before .turned .ensures in
     let f = c .before .before .before .before .before .before .before .forward .ensures in
     let m = c .before .before .before .before .before .before .before .before .start .ensures in
@@ -34,7 +34,7 @@ returns c =
     λ xs p. settled-wiped xs _ _ _ p (view (s .args .session)) _ _ _ _ m (rw (f, t) at (c .before .before .before .run .ensures)) (c .if1 .taken)
 
 put-requires : tie.Need-put-requires
-put-requires c κs = 
+put-requires c κs =
     let s = c .before .before .before .before .before .before .before .before .before .before .before .before .before .before in
     (fields-few _ _ _ _ _ _ (s .pre), s .pre .offers-room)
 
@@ -46,7 +46,7 @@ same-length-3 c = search needs
 
 returns-2 : tie.Need-returns-2
 unfolding view
-returns-2 c = 
+returns-2 c =
     let t = c .before .before .before .before .before .before .before .before .before .before .turned .ensures in
     let f = c .before .before .before .before .before .before .before .before .before .before .before .forward .ensures in
     let m = c .before .before .before .before .before .before .before .before .before .before .before .before .start .ensures in

@@ -14,7 +14,7 @@ judge-engine-requires : tie.Need-judge-engine-requires
 judge-engine-requires c κs = search needs
 
 returns-2 : tie.Need-returns-2
-returns-2 c = 
+returns-2 c =
     let a = c .before .before in
     judged-engine _ _ _ _ _ (sym (a .before .judge-session .ensures) ∙ a .if1 .left) _ (c .if2 .taken) (c .before .judge-engine .ensures)
 
@@ -22,7 +22,7 @@ judge-place-requires : tie.Need-judge-place-requires
 judge-place-requires c κs = search needs
 
 returns-3 : tie.Need-returns-3
-returns-3 c = 
+returns-3 c =
     let b = c .before .before in
     let a = b .before .before in
     judged-place _ _ _ _ _ (sym (a .before .judge-session .ensures) ∙ a .if1 .left) (sym (b .before .judge-engine .ensures) ∙ b .if2 .left)
@@ -32,7 +32,7 @@ judge-order-requires : tie.Need-judge-order-requires
 judge-order-requires c κs = search needs
 
 returns-4 : tie.Need-returns-4
-returns-4 c = 
+returns-4 c =
     let d = c .before .before in
     let b = d .before .before in
     let a = b .before .before in
@@ -43,7 +43,7 @@ judge-step-requires : tie.Need-judge-step-requires
 judge-step-requires c κs = search needs
 
 returns-5 : tie.Need-returns-5
-returns-5 c = 
+returns-5 c =
     let e = c .before in
     let d = e .before .before in
     let b = d .before .before in

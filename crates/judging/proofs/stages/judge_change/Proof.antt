@@ -19,13 +19,13 @@ withdrawn-unheld-requires c κs = search needs
 
 returns-2 : tie.Need-returns-2
 unfolding view
-returns-2 c = 
+returns-2 c =
     let a = c .before .before in
     first-next _ _ _ (sym (a .before .added-again .ensures) ∙ a .if1 .left) (first-applies _ _ _ (sym (c .before .withdrawn-unheld .ensures) ∙ c .if2 .taken))
 
 returns-3 : tie.Need-returns-3
 unfolding view
-returns-3 c = 
+returns-3 c =
     let b = c .before .before in
     let a = b .before .before in
     first-next _ _ _ (sym (a .before .added-again .ensures) ∙ a .if1 .left) (first-next _ _ _ (sym (b .before .withdrawn-unheld .ensures) ∙ b .if2 .left)
@@ -33,7 +33,7 @@ returns-3 c =
 
 returns-4 : tie.Need-returns-4
 unfolding view
-returns-4 c = 
+returns-4 c =
     let b = c .before .before in
     let a = b .before .before in
     first-next _ _ _ (sym (a .before .added-again .ensures) ∙ a .if1 .left) (first-next _ _ _ (sym (b .before .withdrawn-unheld .ensures) ∙ b .if2 .left)

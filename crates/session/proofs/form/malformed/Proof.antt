@@ -28,12 +28,12 @@ masks-on-sheet-requires-2 : tie.Need-masks-on-sheet-requires-2
 masks-on-sheet-requires-2 c κs = search needs
 
 returns-2 : tie.Need-returns-2
-returns-2 c = 
+returns-2 c =
     let a = c .before .before in
     ill-strikes _ _ (long (a .before .before .before .before .before .before)) (yes (a .before .masks-on-sheet .ensures) (a .if1 .left)) (no (c .before .masks-on-sheet2 .ensures) (c .if2 .taken))
 
 returns-3 : tie.Need-returns-3
-returns-3 c = 
+returns-3 c =
     let b = c .before in
     let a = b .before .before in
     ill-count _ _ (long (a .before .before .before .before .before .before)) (yes (a .before .masks-on-sheet .ensures) (a .if1 .left))
@@ -43,7 +43,7 @@ events-reversible-requires : tie.Need-events-reversible-requires
 events-reversible-requires c κs = search needs
 
 returns-4 : tie.Need-returns-4
-returns-4 c = 
+returns-4 c =
     let b = c .before .before in
     let a = b .before .before in
     ill-events _ _ (long (a .before .before .before .before .before .before)) (yes (a .before .masks-on-sheet .ensures) (a .if1 .left))

@@ -53,7 +53,7 @@ loop-again : tie.Need-loop-again Inv-loop μ-loop
 loop-again c = (search needs, filling-next _ _ _ _ _ (c .before .loop-test .taken) (c .start-mask .ensures) (c .before .before .loop .inv .1))
 
 returns : tie.Need-returns Inv-loop μ-loop
-returns c = 
+returns c =
     let e : c .before .loop .f ≡ mostFields = search needs in
     filling-whole _ _ _ (rw e at (c .before .loop .inv .1)) ∙ masks-are _ _
 
