@@ -77,7 +77,7 @@ fn reach(random: &mut Random) -> u32 {
 }
 
 /// Every pair of n fields, rising.
-fn every(n: usize) -> impl Iterator<Item = (usize, usize)> {
+pub fn every(n: usize) -> impl Iterator<Item = (usize, usize)> {
     (0..n).flat_map(move |i| (i + 1..n).map(move |j| (i, j)))
 }
 

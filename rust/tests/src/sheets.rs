@@ -1,8 +1,9 @@
 //! Sheets as numbers and bytes, and damaged ones.
 
+use crate::shapes::every;
 use crate::Random;
 use solver::reading::groups;
-use solver::Sheet;
+use solver::{Rule, Sheet};
 
 /// The list of numbers of a sheet.
 pub fn numbers(sheet: &Sheet) -> Vec<u32> {
@@ -22,6 +23,25 @@ pub fn numbers(sheet: &Sheet) -> Vec<u32> {
 /// The bytes of a sheet.
 pub fn bytes(sheet: &Sheet) -> Vec<u8> {
     groups(&numbers(sheet))
+}
+
+/// The numbers of the largest sheet: 24 fields of 24 settings in three groups, 276 rules of 24 masks in four.
+pub fn largest() -> Vec<u32> {
+    let rule = |(i, j)| Rule { i, j, kind: 0, numbers: vec![(1 << 24) - 1; 24] };
+    numbers(&Sheet { settings: vec![(65_512..65_536).collect(); 24], reach: 24, rules: every(24).map(rule).collect() })
+}
+
+/// Fields {1, 2} with a distance of at least 1 for each of these pairs.
+pub fn unequal(fields: usize, reach: u32, pairs: &[(usize, usize)]) -> Sheet {
+    let rule = |&(i, j): &(usize, usize)| Rule { i, j, kind: 3, numbers: vec![1] };
+    Sheet { settings: vec![vec![1, 2]; fields], reach, rules: pairs.iter().map(rule).collect() }
+}
+
+/// Every string of so many bytes that are often at the edge of something: small numbers, and groups that end or continue.
+pub fn strings(length: u32) -> impl Iterator<Item = Vec<u8>> {
+    const CHOICES: [u8; 12] = [0, 1, 2, 5, 24, 25, 100, 127, 128, 129, 200, 255];
+    let byte = |code: usize, place: u32| CHOICES[code / CHOICES.len().pow(place) % CHOICES.len()];
+    (0..CHOICES.len().pow(length)).map(move |code| (0..length).map(|place| byte(code, place)).collect())
 }
 
 /// A number that is often at the edge of some range.

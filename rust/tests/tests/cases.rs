@@ -2,6 +2,7 @@
 
 use belaykeel::{Engine, Offers, Order, Refusal, Session, Sheet, WorkSpaces};
 use solver::Call;
+use tests::sheets::{self, bytes};
 
 const SHEET_D: [u8; 19] =
     [0x02, 0x03, 0x64, 0xC8, 0x01, 0xAC, 0x02, 0x03, 0x64, 0xC8, 0x01, 0xAC, 0x02, 0x18, 0x01, 0x00, 0x01, 0x01, 0x64];
@@ -32,13 +33,9 @@ fn last(sheet: &Sheet, engine: Engine, calls: &[Call]) -> Result<Vec<u32>, u32> 
     answer.map(|offers| offers.masks().to_vec()).map_err(Refusal::number)
 }
 
-/// Fields {1, 2} with a distance of at least 1 for each of these pairs.
-fn unequal(fields: u32, reach: u32, pairs: &[(u32, u32)]) -> Sheet {
-    let mut numbers = vec![fields];
-    (0..fields).for_each(|_| numbers.extend([2, 1, 2]));
-    numbers.extend([reach, pairs.len() as u32]);
-    pairs.iter().for_each(|&(i, j)| numbers.extend([i, j, 3, 1]));
-    Sheet::write(&numbers).expect("a sheet")
+/// Fields {1, 2}, the fields of each pair unequal.
+fn unequal(fields: usize, reach: u32, pairs: &[(usize, usize)]) -> Sheet {
+    Sheet::from_bytes(bytes(&sheets::unequal(fields, reach, pairs)))
 }
 
 #[test]

@@ -4,7 +4,7 @@ use belaykeel::raw::{self, Answer};
 use solver::reading;
 use tests::drive::environment;
 use tests::shapes::{self, Size};
-use tests::sheets::{damage_bytes, damage_numbers, numbers};
+use tests::sheets::{damage_bytes, damage_numbers, largest, numbers, strings};
 use tests::shrink::shorter;
 use tests::Random;
 
@@ -87,35 +87,12 @@ fn random_sheets() {
 
 #[test]
 fn short_strings_of_bytes() {
-    let choices: [u8; 12] = [0, 1, 2, 5, 24, 25, 100, 127, 128, 129, 200, 255];
     let starts: [&[u8]; 5] = [&[], &[1, 1], &[1, 1, 0, 24], &[1, 1, 0, 24, 0], &[3, 1, 0, 1, 0, 2, 0, 9, 24, 2, 0, 1, 4, 9]];
-    for length in 0..5 {
-        for mut code in 0..choices.len().pow(length) {
-            let mut end = vec![];
-            for _ in 0..length {
-                end.push(choices[code % choices.len()]);
-                code /= choices.len();
-            }
-            for start in starts {
-                same_read(&[start, &end].concat(), 20);
-            }
+    for end in (0..5).flat_map(strings) {
+        for start in starts {
+            same_read(&[start, &end].concat(), 20);
         }
     }
-}
-
-/// The numbers of the largest sheet: 24 fields of 24 settings in three groups, 276 rules of 24 masks in four.
-fn largest() -> Vec<u32> {
-    let mut numbers = vec![24];
-    for _ in 0..24 {
-        numbers.push(24);
-        numbers.extend(65_512..65_536);
-    }
-    numbers.extend([24, 276]);
-    for (i, j) in (0..24).flat_map(|i| (i + 1..24).map(move |j| (i, j))) {
-        numbers.extend([i, j, 0]);
-        numbers.extend([(1 << 24) - 1; 24]);
-    }
-    numbers
 }
 
 #[test]

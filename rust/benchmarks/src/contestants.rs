@@ -1,0 +1,101 @@
+//! Those that are compared: the proved library with each engine, and plain Rust.
+
+use crate::measure::{timed, Contestant, Run};
+use crate::plain::calls::Plain;
+use crate::plain::methods;
+use crate::proved::Proved;
+use crate::task::{Job, Lent, Task};
+use crate::{Offers, WHOLE_REACH};
+use belaykeel::raw::OFFERS_WORDS;
+use belaykeel::{Engine, Session};
+use std::fmt;
+use std::hint::black_box;
+use tests::linked::{Library, Linked};
+
+/// What a contestant is.
+#[derive(Clone, Copy, Debug, PartialEq, Eq)]
+pub enum Role {
+    /// The proved library with this engine.
+    Proved(Engine),
+    /// Plain SAC-1 that revises one neighbour after the other, with a branch for each value: the ordinary bit-parallel AC-3.
+    Branching,
+    /// The same without a branch, which is the proved engines' algorithm.
+    BranchFree,
+    /// Plain SAC-1 that revises all neighbours at once, with the values in groups: the fastest plain Rust that was found.
+    AtOnce,
+    /// Plain SAC-2 and the plain queue, which close in that way too.
+    Sac2,
+    Queue,
+}
+
+/// The plain SAC-1 methods.
+pub const PLAIN_SAC1: [Role; 3] = [Role::Branching, Role::BranchFree, Role::AtOnce];
+
+/// Those of them that revise one neighbour after the other.
+pub const ONE_BY_ONE: [Role; 2] = [Role::Branching, Role::BranchFree];
+
+/// Every plain method.
+pub const PLAIN: [Role; 5] = [Role::Branching, Role::BranchFree, Role::AtOnce, Role::Sac2, Role::Queue];
+
+impl fmt::Display for Role {
+    fn fmt(&self, formatter: &mut fmt::Formatter) -> fmt::Result {
+        formatter.write_str(match self {
+            Role::Proved(engine) => return write!(formatter, "engine {}", engine.number()),
+            Role::Branching => "union",
+            Role::BranchFree => "branch-free union, 8 rows or 24",
+            Role::AtOnce => "all neighbours at once, values in groups",
+            Role::Sac2 => "plain SAC-2",
+            Role::Queue => "plain queue",
+        })
+    }
+}
+
+/// The proved engines for a reach.
+fn proved(reach: u32) -> impl Iterator<Item = Engine> {
+    Engine::ALL.into_iter().filter(move |&engine| engine != Engine::Sac2 || reach == WHOLE_REACH)
+}
+
+/// All engines for sheets of this reach and of at most so many fields, the proved ones first.
+pub fn engines(fields: usize, reach: u32) -> Vec<Contestant<Job, Offers>> {
+    let mut all = vec![];
+    for engine in proved(reach) {
+        let mut proved = Proved::default();
+        all.push(Contestant::new(Role::Proved(engine), move |job| {
+            let (answer, time) = proved.offers(engine, job);
+            Run { answer, tests: 0, time }
+        }));
+    }
+    for (role, mut method) in methods(fields, reach) {
+        all.push(Contestant::new(role, move |job| {
+            let (found, time) = timed(|| method(job));
+            Run { answer: found.offers, tests: found.tests, time }
+        }));
+    }
+    all
+}
+
+/// What a call leaves: its number, the session and the offers list.
+pub type Left = (u32, Session, [u32; OFFERS_WORDS]);
+
+/// What the offers list holds before a call.
+const NO_OFFERS: u32 = 0xA5C3_0F1E;
+
+/// All libraries for sheets of this reach and of at most so many fields, the proved one first.
+pub fn libraries(fields: usize, reach: u32) -> Vec<Contestant<Task, Left>> {
+    let proved = proved(reach).map(|engine| library(Role::Proved(engine), engine, Linked));
+    let plain = methods(fields, reach).into_iter().map(|(role, method)| library(role, Engine::Sac1, Plain::new(method)));
+    proved.chain(plain).collect()
+}
+
+/// A library that makes each call on a copy of the task's session. The time is that of the call alone.
+fn library(role: Role, engine: Engine, mut library: impl Library + 'static) -> Contestant<Task, Left> {
+    let mut lent = Lent::default();
+    Contestant::new(role, move |task: &Task| {
+        lent.offers.fill(NO_OFFERS);
+        let mut session = task.session.clone();
+        let given = task.given(engine, &mut lent);
+        let (number, time) = timed(|| library.call(black_box(&mut session), task.call, given));
+        assert_eq!(number, task.number, "{role}: {task:?}");
+        Run { answer: (number, session, lent.offers), tests: 0, time }
+    })
+}

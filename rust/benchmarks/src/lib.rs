@@ -1,0 +1,24 @@
+//! The jobs of the library in plain Rust. The tests hold the proved code to it, and the programs `reading`, `engines` and `calls` time both.
+
+#![deny(unsafe_code)]
+
+pub mod contestants;
+pub mod measure;
+pub mod plain;
+#[allow(unsafe_code)]
+pub mod proved;
+pub mod report;
+pub mod sheets;
+pub mod task;
+
+/// The most fields of a sheet, and the most settings of a field.
+pub const MOST: usize = 24;
+
+/// The reach at which every neighbourhood is the whole sheet.
+pub const WHOLE_REACH: u32 = 24;
+
+/// The domain of each field: bit v means position v. Zeros past the last field.
+pub type Domains = [u32; MOST];
+
+/// The offers, or nothing where the set is wiped out.
+pub type Offers = Option<Domains>;

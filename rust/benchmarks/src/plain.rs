@@ -1,0 +1,55 @@
+//! The jobs of the library in plain Rust: sheets read and written, offers found by three ways of closing, whole calls.
+
+pub mod calls;
+mod closing;
+mod engines;
+mod lanes;
+mod network;
+mod pairs;
+pub mod reading;
+
+use crate::contestants::Role;
+use crate::task::Job;
+use crate::{Offers, MOST, WHOLE_REACH};
+use closing::Closing;
+use engines::Solver;
+use lanes::Lanes;
+use pairs::{BranchFree, Branching, Pairs};
+
+/// The offers of a job, and the singleton tests that they took.
+pub struct Found {
+    pub offers: Offers,
+    pub tests: u64,
+}
+
+/// A method with its tables, which are made once. It goes from the list of numbers to the offers.
+pub type Method = Box<dyn FnMut(&Job) -> Found>;
+
+/// The plain methods for sheets of this reach and of at most so many fields.
+pub fn methods(fields: usize, reach: u32) -> Vec<(Role, Method)> {
+    let mut all = vec![(Role::Branching, sac1::<Pairs<Branching>>()), (Role::BranchFree, sac1::<Pairs<BranchFree>>())];
+    all.extend(match fields {
+        0..=8 => at_once::<Lanes<8, 3>>(reach),
+        9..=12 => at_once::<Lanes<12, 4>>(reach),
+        13..=16 => at_once::<Lanes<16, 4>>(reach),
+        _ => at_once::<Lanes<24, 4>>(reach),
+    });
+    all
+}
+
+fn sac1<C: Closing + 'static>() -> Method {
+    let mut solver = Solver::<C>::default();
+    Box::new(move |job| solver.sac1(job))
+}
+
+/// SAC-1, the queue and SAC-2 over the fastest way of closing.
+fn at_once<C: Closing + 'static>(reach: u32) -> Vec<(Role, Method)> {
+    let mut queue = Solver::<C>::default();
+    let mut all: Vec<(Role, Method)> = vec![(Role::AtOnce, sac1::<C>()), (Role::Queue, Box::new(move |job| queue.queued(job)))];
+    if reach == WHOLE_REACH {
+        let mut sac2 = Solver::<C>::default();
+        let mut memory = Box::new([[[0; MOST]; MOST]; MOST]);
+        all.push((Role::Sac2, Box::new(move |job| sac2.sac2(&mut memory, job))));
+    }
+    all
+}

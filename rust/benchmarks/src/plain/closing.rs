@@ -1,0 +1,65 @@
+//! What the ways of closing share. Each is AC-3 with a mask of the changed fields.
+
+use super::network::Network;
+use crate::{Domains, MOST};
+
+/// A way to close a set by AC-3, with its tables.
+pub trait Closing: Default {
+    /// Fills the tables from an accepted list of numbers.
+    fn load(&mut self, numbers: &[u32]) -> Network;
+
+    /// Closes the set over the fields of `within`, where only the fields of `changed` may leave a setting without support. The fields
+    /// that lost settings, or nothing where one has none left.
+    fn close(&self, network: &Network, domains: &mut Domains, within: u32, changed: u32) -> Option<u32>;
+}
+
+/// The changed fields. They are taken in sweeps: a field that changes behind the sweep waits for the next one.
+pub struct Changed {
+    sweep: u32,
+    all: u32,
+}
+
+impl Changed {
+    #[inline(always)]
+    pub fn new(all: u32) -> Changed {
+        Changed { sweep: 0, all }
+    }
+
+    #[inline(always)]
+    pub fn add(&mut self, fields: u32) {
+        self.all |= fields;
+    }
+
+    #[inline(always)]
+    pub fn take(&mut self) -> Option<usize> {
+        if self.sweep == 0 {
+            self.sweep = self.all;
+        }
+        if self.sweep == 0 {
+            return None;
+        }
+        let g = self.sweep.trailing_zeros() as usize;
+        self.sweep &= self.sweep - 1;
+        self.all &= !(1 << g);
+        Some(g)
+    }
+}
+
+/// The mask of each position alone.
+pub const BITS: [u32; MOST] = {
+    let mut bits = [0; MOST];
+    let mut v = 0;
+    while v < MOST {
+        bits[v] = 1 << v;
+        v += 1;
+    }
+    bits
+};
+
+/// For each position a word of ones where the mask has it, else 0. Not inlined, because alone it is compiled to vectors.
+#[inline(never)]
+pub fn spread(mask: u32, words: &mut [u32; MOST]) {
+    for (word, bit) in words.iter_mut().zip(BITS) {
+        *word = if mask & bit != 0 { u32::MAX } else { 0 };
+    }
+}

@@ -1,0 +1,143 @@
+//! The three methods over any way of closing.
+
+use super::closing::Closing;
+use super::network::{members, Network};
+use super::Found;
+use crate::task::Job;
+use crate::{Domains, Offers, MOST};
+
+/// A sheet's network and tables, with one way of closing.
+#[derive(Default)]
+pub struct Solver<C> {
+    network: Network,
+    closing: C,
+}
+
+/// For each setting what its last passed test left; the settings of a field stand together.
+pub type Memory = Box<[[Domains; MOST]; MOST]>;
+
+impl<C: Closing> Solver<C> {
+    /// SAC-1: passes over all fields in the given order, until one changes nothing.
+    pub fn sac1(&mut self, job: &Job) -> Found {
+        let mut tests = 0;
+        let offers = self.begin(job).and_then(|domains| {
+            self.passes(domains, &job.order, |domains, f, v| {
+                tests += 1;
+                self.test(domains, f, v).is_some()
+            })
+        });
+        Found { offers, tests }
+    }
+
+    /// SAC-2, at reach 24: a setting is tested again only when the set has lost some of what its last test left.
+    pub fn sac2(&mut self, memory: &mut Memory, job: &Job) -> Found {
+        let mut tests = 0;
+        let mut known = [0; MOST];
+        let offers = self.begin(job).and_then(|domains| {
+            self.passes(domains, &job.order, |domains, f, v| {
+                if known[f] & (1 << v) != 0 && holds(domains, &memory[f][v]) {
+                    return true;
+                }
+                tests += 1;
+                let left = self.test(domains, f, v);
+                if let Some(left) = left {
+                    memory[f][v] = left;
+                    known[f] |= 1 << v;
+                }
+                left.is_some()
+            })
+        });
+        Found { offers, tests }
+    }
+
+    /// The queue method: only fields on the queue are visited, in the given order, and a removal puts fields back.
+    pub fn queued(&mut self, job: &Job) -> Found {
+        let mut tests = 0;
+        let offers = self.begin(job).and_then(|domains| self.drain(domains, &job.order, &mut tests));
+        Found { offers, tests }
+    }
+
+    /// Builds the tables from the numbers, and closes the start set.
+    fn begin(&mut self, job: &Job) -> Offers {
+        self.network = self.closing.load(&job.numbers);
+        let mut domains = job.start;
+        if domains[..self.network.fields].contains(&0) {
+            return None;
+        }
+        let all = self.network.all();
+        self.closing.close(&self.network, &mut domains, all, all)?;
+        Some(domains)
+    }
+
+    fn passes(&self, mut domains: Domains, order: &[u8], mut passes: impl FnMut(&Domains, usize, usize) -> bool) -> Offers {
+        let mut changed = true;
+        while changed {
+            changed = false;
+            for f in order.iter().map(|&f| usize::from(f)) {
+                changed |= self.visit(&mut domains, f, |domains, v| passes(domains, f, v))? != 0;
+            }
+        }
+        Some(domains)
+    }
+
+    fn drain(&self, mut domains: Domains, order: &[u8], tests: &mut u64) -> Offers {
+        let mut queue = self.network.all();
+        while queue != 0 {
+            for f in order.iter().map(|&f| usize::from(f)) {
+                if queue & (1 << f) == 0 {
+                    continue;
+                }
+                queue &= !(1 << f);
+                let touched = self.visit(&mut domains, f, |domains, v| {
+                    *tests += 1;
+                    self.test(domains, f, v).is_some()
+                })?;
+                queue |= put_back(&self.network, touched);
+            }
+        }
+        Some(domains)
+    }
+
+    /// Removes each setting of f that does not pass. The fields that lost settings, or nothing where the set is wiped out.
+    fn visit(&self, domains: &mut Domains, f: usize, mut passes: impl FnMut(&Domains, usize) -> bool) -> Option<u32> {
+        let mut touched = 0;
+        for v in members(domains[f]) {
+            if domains[f] & (1 << v) != 0 && !passes(domains, v) {
+                touched |= self.remove(domains, f, v)?;
+            }
+        }
+        Some(touched)
+    }
+
+    /// The singleton test: closes what is left when f is cut to v, over the neighbourhood of f. What the test left, or nothing where it fails.
+    #[inline]
+    fn test(&self, domains: &Domains, f: usize, v: usize) -> Offers {
+        let mut cut = *domains;
+        cut[f] = 1 << v;
+        self.closing.close(&self.network, &mut cut, self.network.hood[f], 1 << f)?;
+        Some(cut)
+    }
+
+    /// Removes v from f and closes again over every field. The fields that lost settings, or nothing where the set is wiped out.
+    fn remove(&self, domains: &mut Domains, f: usize, v: usize) -> Option<u32> {
+        domains[f] &= !(1 << v);
+        if domains[f] == 0 {
+            return None;
+        }
+        let touched = self.closing.close(&self.network, domains, self.network.all(), 1 << f)?;
+        Some(touched | 1 << f)
+    }
+}
+
+/// Whether the set has every setting of a part.
+fn holds(domains: &Domains, part: &Domains) -> bool {
+    (0..MOST).fold(0, |lost, f| lost | part[f] & !domains[f]) == 0
+}
+
+/// The fields to visit again: all at reach 24, otherwise the other fields of the neighbourhood of each field that lost settings.
+fn put_back(network: &Network, touched: u32) -> u32 {
+    if network.whole && touched != 0 {
+        return network.all();
+    }
+    members(touched).fold(0, |back, g| back | network.hood[g] & !(1 << g))
+}

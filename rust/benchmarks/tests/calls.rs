@@ -1,0 +1,89 @@
+//! The plain calls and the proved ones agree: on random sequences of calls with sheets, sessions and arguments that are often wrong, and on
+//! the calls that are timed.
+
+use belaykeel::raw::Arguments;
+use belaykeel::Session;
+use benchmarks::contestants::libraries;
+use benchmarks::measure::agree;
+use benchmarks::plain::calls::Plain;
+use benchmarks::plain::methods;
+use benchmarks::sheets::{Class, Series, Source, MILLS, REACHES};
+use benchmarks::task::{Chosen, CALLS};
+use random::Random;
+use tests::case::{Given, Step};
+use tests::linked::{session, words, Library, Linked};
+use tests::shapes::Size;
+use tests::sheets::{bytes, damaged};
+use tests::steps::{next, opening, Habits};
+use tests::tally::Tally;
+use tests::{forge, taste};
+
+/// What a library leaves: the number, the session and the offers list.
+fn left(library: &mut dyn Library, before: &Session, given: &Given, sheet: &[u8]) -> (u32, Session, Vec<u32>) {
+    let mut session = before.clone();
+    let mut offers = vec![0xA5C3_0F1E; given.offers];
+    let arguments = Arguments {
+        sheet: given.sheet.as_deref().unwrap_or(sheet),
+        engine: given.engine,
+        order: &given.order,
+        offers: &mut offers,
+        rows: &mut vec![0; given.rows],
+        memory: &mut vec![0; given.memory],
+    };
+    let number = library.call(&mut session, given.call, arguments);
+    (number, session, offers)
+}
+
+/// A sequence of calls that the seed decides; each is made by the proved library and a plain one.
+fn sequence(plain: &mut dyn Library, seed: u64, tally: &mut Tally) {
+    let mut random = Random(seed);
+    let size = random.pick(&[Size::Small, Size::Small, Size::Long]);
+    let sheet = taste::sheet(&mut random, size);
+    tally.meet(&sheet);
+    let given = if random.one_in(8) { damaged(&mut random, &sheet) } else { bytes(&sheet) };
+    let forging = random.one_in(2);
+    let habits = Habits::draw(&mut random, forging);
+    let mut held = session(&forge::forged(&mut random, &sheet));
+    for place in 0..random.pick(&[8, 20, 100]) {
+        let step = if place == 0 { opening(&mut random, &sheet) } else { next(&mut random, &habits, &sheet, &words(&held)) };
+        match step {
+            Step::Forge(words) => held = session(&words),
+            Step::Call(call) => {
+                let proved = left(&mut Linked, &held, &call, &given);
+                assert_eq!(left(plain, &held, &call, &given), proved, "seed {seed}: {call:?} on {held:?} of {given:?}");
+                tally.add(call.call, proved.0);
+                held = proved.1;
+            }
+        }
+    }
+}
+
+#[test]
+fn random_calls() {
+    let mut seeds = Random(1);
+    let mut tally = Tally::default();
+    // Methods for every reach and any number of fields.
+    let mut plains: Vec<Plain> = methods(24, 1).into_iter().map(|(_, method)| Plain::new(method)).collect();
+    for turn in 0..1000 {
+        let which = turn % plains.len();
+        sequence(&mut plains[which], seeds.word(), &mut tally);
+    }
+    println!("{tally}");
+    assert!((0..=15).all(|number| tally.number(number) > 0), "{tally}");
+}
+
+#[test]
+fn timed_calls() {
+    let class = Class { fields: 14, settings: 7, density: 0.5, tightness: 0.4, reach: 24 };
+    let mut sources = MILLS.map(Source::Mill).to_vec();
+    sources.extend([Source::Random(class), Source::Planted(class)]);
+    for source in sources {
+        let chosen = Chosen::new(Series::new(source, 1, REACHES), 2);
+        for &reach in REACHES {
+            let mut all = libraries(source.fields(), reach);
+            for task in (0..CALLS.len()).flat_map(|call| chosen.tasks(call, reach)) {
+                agree(&mut all, &task);
+            }
+        }
+    }
+}

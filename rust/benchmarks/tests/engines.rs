@@ -1,0 +1,98 @@
+//! The proved engines, the plain ones and the solver agree: on small random sheets with rules of every kind, of all reaches, with random
+//! orders and start sets, and on larger ones without the solver.
+
+use benchmarks::contestants::{engines, Role, PLAIN_SAC1};
+use benchmarks::measure::agree;
+use benchmarks::sheets::Class;
+use benchmarks::task::Job;
+use benchmarks::{Domains, Offers};
+use random::Random;
+use solver::{Network, Rule, Sheet};
+use tests::shapes::{self, Size};
+use tests::sheets::unequal;
+
+/// A start set: every setting, or some of them.
+fn start(random: &mut Random, full: Domains) -> Domains {
+    let thin = random.one_in(3);
+    full.map(|domain| if thin { domain & (random.word() | random.word()) as u32 } else { domain })
+}
+
+fn random_job(random: &mut Random, sheet: &Sheet) -> Job {
+    let job = Job::new(sheet);
+    Job { start: start(random, job.start), order: random.order(sheet.fields()), ..job }
+}
+
+/// What all engines answer. The tests of SAC-1 do not depend on the way of closing, and the other methods take no more.
+fn solve(sheet: &Sheet, job: &Job) -> Offers {
+    let mut all = engines(sheet.fields(), sheet.reach);
+    let runs = agree(&mut all, job);
+    let tests = |wanted: &[Role]| -> Vec<u64> {
+        all.iter().zip(&runs).filter(|(contestant, _)| wanted.contains(&contestant.role)).map(|(_, run)| run.tests).collect()
+    };
+    let sac1 = tests(&PLAIN_SAC1);
+    assert!(sac1.iter().all(|&count| count == sac1[0]), "{sac1:?}: {job:?}");
+    assert!(tests(&[Role::Sac2, Role::Queue]).iter().all(|&count| count <= sac1[0]), "{sac1:?}: {job:?}");
+    runs[0].answer
+}
+
+/// A small sheet with rules of kind 0, of a class where a setting often fails its test though it has support.
+fn masked_sheet(random: &mut Random) -> Sheet {
+    let (fields, settings) = (4 + random.below(4), 2 + random.below(3));
+    let (density, tightness) = (random.pick(&[0.4, 0.7, 1.0]), random.pick(&[0.25, 0.35, 0.45, 0.55]));
+    Class { fields, settings, density, tightness, reach: random.pick(&[1, 2, 3, 24]) }.sheet(random.word())
+}
+
+#[test]
+fn agree_with_the_solver() {
+    let mut random = Random(1);
+    let (mut wiped, mut narrowed, mut untouched) = (0, 0, 0);
+    for round in 0..3000 {
+        let sheet = if round % 2 == 0 { shapes::sheet(&mut random, Size::Small) } else { masked_sheet(&mut random) };
+        let job = random_job(&mut random, &sheet);
+        let network = Network::of(&sheet);
+        let expected = network.offers(job.start);
+        let offers = solve(&sheet, &job);
+        assert_eq!(offers, (!network.wiped_out(&expected)).then_some(expected), "{job:?}");
+        match offers {
+            None => wiped += 1,
+            Some(set) if set == job.start => untouched += 1,
+            Some(_) => narrowed += 1,
+        }
+    }
+    println!("{wiped} wiped out, {narrowed} narrowed, {untouched} untouched");
+    assert!(wiped.min(narrowed).min(untouched) > 300, "{wiped} {narrowed} {untouched}");
+}
+
+#[test]
+fn agree_on_larger_sheets() {
+    let mut random = Random(2);
+    for seed in 0..300 {
+        let (fields, settings) = (7 + random.below(18), 2 + random.below(23));
+        let density = random.pick(&[0.2, 0.5, 1.0]);
+        let tightness = 0.1 + 0.7 * random.below(100) as f64 / 100.0;
+        let reach = random.pick(&[1, 2, 3, 23, 24, 24]);
+        let sheet = Class { fields, settings, density, tightness, reach }.sheet(seed);
+        let job = random_job(&mut random, &sheet);
+        solve(&sheet, &job);
+    }
+}
+
+fn offers_of(sheet: &Sheet) -> Option<Vec<u32>> {
+    solve(sheet, &Job::new(sheet)).map(|set| set[..sheet.fields()].to_vec())
+}
+
+#[test]
+fn worked_cases() {
+    let rule = Rule { i: 0, j: 1, kind: 1, numbers: vec![100] };
+    let sheet_d = Sheet { settings: vec![vec![100, 200, 300]; 2], reach: 24, rules: vec![rule] };
+    assert_eq!(offers_of(&sheet_d), Some(vec![6, 3]));
+    assert_eq!(offers_of(&Sheet { settings: vec![vec![300]], reach: 24, rules: vec![] }), Some(vec![1]));
+    let triangle = [(0, 1), (0, 2), (1, 2)];
+    let ring = [(0, 1), (0, 4), (1, 2), (2, 3), (3, 4)];
+    for reach in [1, 24] {
+        assert_eq!(offers_of(&unequal(3, reach, &triangle)), None);
+        assert_eq!(offers_of(&unequal(4, reach, &triangle)), None);
+    }
+    assert_eq!(offers_of(&unequal(5, 1, &ring)), Some(vec![3; 5]));
+    assert_eq!(offers_of(&unequal(5, 2, &ring)), None);
+}

@@ -1,0 +1,72 @@
+//! The proved library and the plain reader and writer agree: on sheets made at random, damaged, cut short and followed by more, and with
+//! outputs of any length.
+
+use belaykeel::raw::{self, Answer};
+use benchmarks::plain::reading;
+use random::Random;
+use solver::reading::groups;
+use std::fmt::Debug;
+use tests::shapes::{self, Size};
+use tests::sheets::{damage_bytes, damage_numbers, largest, numbers, strings};
+
+/// Makes a call of the library and the plain one, with an output of this length. The number of both.
+fn same<G: Debug + ?Sized, W: Clone + PartialEq + Debug>(
+    given: &G,
+    mut output: Vec<W>,
+    proved: fn(&G, &mut [W]) -> Answer,
+    plain: fn(&G, &mut [W]) -> Answer,
+) -> u32 {
+    let mut other = output.clone();
+    let answer = proved(given, &mut output);
+    assert_eq!(answer, plain(given, &mut other), "{given:?}");
+    assert_eq!(output, other, "{given:?}");
+    answer.number
+}
+
+fn same_read(bytes: &[u8], room: usize) -> u32 {
+    same(bytes, vec![7; room], raw::read, reading::read)
+}
+
+fn same_write(numbers: &[u32], room: usize) -> u32 {
+    same(numbers, vec![7; room], raw::write, reading::write)
+}
+
+#[test]
+fn agree_on_random_sheets() {
+    let mut random = Random(1);
+    let (mut read, mut written) = ([0; 7], [0; 7]);
+    for _ in 0..200_000 {
+        let mut numbers = numbers(&shapes::sheet(&mut random, Size::Small));
+        if random.below(3) > 0 {
+            damage_numbers(&mut random, &mut numbers);
+        }
+        let room = random.below(2 * numbers.len() + 2);
+        written[same_write(&numbers, 2 * room) as usize] += 1;
+        let mut bytes = groups(&numbers);
+        if random.one_in(2) {
+            damage_bytes(&mut random, &mut bytes);
+        }
+        read[same_read(&bytes, room) as usize] += 1;
+    }
+    println!("read {read:?}, written {written:?}");
+    assert!(read.iter().all(|&times| times > 1000), "{read:?}");
+    assert!([0, 1, 3, 4, 5, 6].iter().all(|&number| written[number] > 1000), "{written:?}");
+}
+
+#[test]
+fn agree_on_short_strings_of_bytes() {
+    for end in (0..4).flat_map(strings) {
+        for start in [&[][..], &[1, 1, 0, 24]] {
+            same_read(&[start, &end].concat(), 8);
+        }
+    }
+}
+
+#[test]
+fn the_largest_sheet() {
+    let numbers = largest();
+    let bytes = groups(&numbers);
+    assert_eq!((numbers.len(), bytes.len()), (8055, 29080));
+    assert_eq!((same_read(&bytes, 8055), same_read(&bytes, 8054)), (0, 6));
+    assert_eq!((same_write(&numbers, 29080), same_write(&numbers, 29079)), (0, 6));
+}
