@@ -1,7 +1,7 @@
 //! The offers of a set-up page, kept under choices and strikes that are withdrawn in any order.
 //!
-//! A [`Sheet`] has fields, their settings and rules that allow pairs of settings. A [`Session`] holds the decisions in force. Each call gives
-//! the [`Offers`]: the largest set of settings under these decisions that is singleton arc consistent, over the whole sheet or over
+//! A [`Sheet`] has fields, their settings and rules that allow pairs of settings. A [`Session`] holds the decisions in force. Each call
+//! gives the [`Offers`]: the largest set of settings under these decisions that is singleton arc consistent, over the whole sheet or over
 //! neighbourhoods of its reach. A call that is refused says why ([`Refusal`]) and changes nothing.
 //!
 //! ```

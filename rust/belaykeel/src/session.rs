@@ -5,6 +5,7 @@ use crate::offers::Offers;
 use crate::raw::{self, Arguments, OFFERS_WORDS};
 use crate::refusal::Refusal;
 use crate::sheet::Sheet;
+use core::mem::offset_of;
 
 /// The most events that a session holds.
 pub const EVENTS: usize = 64;
@@ -23,8 +24,8 @@ pub struct Event {
 
 /// The control room's session: the decisions in force, up to 64 events and their count, and no offers.
 ///
-/// Its words may hold anything. [`Session::open`] starts afresh from whatever is there; every other call refuses a session that is malformed
-/// for the sheet. A refused call leaves the session as it was.
+/// Its words may hold anything. [`Session::open`] starts afresh from whatever is there; every other call refuses a session that is
+/// malformed for the sheet. A refused call leaves the session as it was.
 ///
 /// A strike and a choice, and the strike withdrawn first. What the strike alone drove out returns; what the choice forbids does not:
 ///
@@ -55,7 +56,19 @@ pub struct Session {
     pub count: u32,
 }
 
-const _: () = assert!(size_of::<Session>() == 964);
+// The library's layout of a session, in bytes: it reads and writes the parts at these offsets. examples/c/layout.c holds C callers to the
+// same.
+const _: () = {
+    assert!(offset_of!(Session, choices) == 0);
+    assert!(offset_of!(Session, strikes) == 96);
+    assert!(offset_of!(Session, events) == 192);
+    assert!(offset_of!(Session, count) == 960);
+    assert!(size_of::<Session>() == 964);
+    assert!(offset_of!(Event, kind) == 0);
+    assert!(offset_of!(Event, field) == 4);
+    assert!(offset_of!(Event, position) == 8);
+    assert!(size_of::<Event>() == 12);
+};
 
 impl Default for Session {
     /// All words 0.

@@ -5,10 +5,13 @@ use std::fmt::Debug;
 use std::hint::black_box;
 use std::time::{Duration, Instant};
 
-/// One of those that do a task.
+/// Does a task once.
+type Runner<T, A> = Box<dyn FnMut(&T) -> Run<A>>;
+
+/// One of those that do the same tasks.
 pub struct Contestant<T, A> {
     pub role: Role,
-    run: Box<dyn FnMut(&T) -> Run<A>>,
+    run: Runner<T, A>,
 }
 
 impl<T, A> Contestant<T, A> {

@@ -1,4 +1,5 @@
-//! The proved engines alone. The only file with unsafe code: the declaration of the library's function, and a wrapper that checks what it asks.
+//! The proved engines alone. The only file with unsafe code: the declaration of the library's function, and a wrapper that checks what it
+//! asks.
 
 use crate::measure::timed;
 use crate::plain::reading::outline;

@@ -1,7 +1,7 @@
-//! The proved library and the plain reader and writer agree: on sheets made at random, damaged, cut short and followed by more, and with
-//! outputs of any length.
+//! The proved library, the plain readers and the plain writer agree: on sheets made at random, damaged, cut short and followed by more, and
+//! with outputs of any length.
 
-use belaykeel::raw::{self, Answer};
+use belaykeel::raw::{self, Answer, SHEET_NUMBERS};
 use benchmarks::plain::reading;
 use random::Random;
 use solver::reading::groups;
@@ -24,6 +24,10 @@ fn same<G: Debug + ?Sized, W: Clone + PartialEq + Debug>(
 }
 
 fn same_read(bytes: &[u8], room: usize) -> u32 {
+    let (mut proved, mut plain) = (vec![0; SHEET_NUMBERS], vec![0; SHEET_NUMBERS]);
+    let answer = raw::read(bytes, &mut proved);
+    assert_eq!(answer.number, reading::read_at_once(bytes, &mut plain).err().unwrap_or(0), "{bytes:02x?}");
+    assert_eq!(proved[..answer.length], plain[..answer.length], "{bytes:02x?}");
     same(bytes, vec![7; room], raw::read, reading::read)
 }
 

@@ -1,8 +1,8 @@
-//! A plain solver, written from the scope paper alone to be compared with the library. It shares nothing with the library or its wrapper and
-//! is made to be read, not to be fast.
+//! A plain solver, written from the scope paper alone to be compared with the library. It shares nothing with the library or its wrapper
+//! and is made to be read, not to be fast.
 //!
-//! [`reading`] has the sheet's bytes and numbers with refusals 1 to 5, [`network`] the definitions of closing, testing and offering, [`ledger`]
-//! the ledger and the number of a call, [`session`] a judge that is given a session's words where the ledger has its own state.
+//! [`reading`] has the sheet's bytes and numbers with refusals 1 to 5, [`network`] the definitions of closing, testing and offering,
+//! [`ledger`] the ledger and the number of a call, [`session`] a judge that is given a session's words where the ledger has its own state.
 
 pub mod ledger;
 pub mod network;

@@ -5,8 +5,8 @@ use crate::Random;
 use solver::{Rule, Sheet};
 
 /// A ring of an odd number of fields {1, 2}, neighbours unequal. Field 0 and another, g, have a third setting, and one of the two must take
-/// it. Field 0 also stands in a triangle that forbids its third setting to a test but not to closing. Once it is gone, the first two settings
-/// of g fail their tests, and nothing else does. The ring has one of the given sizes, and the fields have any names.
+/// it. Field 0 also stands in a triangle that forbids its third setting to a test but not to closing. Once it is gone, the first two
+/// settings of g fail their tests, and nothing else does. The ring has one of the given sizes, and the fields have any names.
 pub fn far(random: &mut Random, sizes: &[usize]) -> Sheet {
     let m = random.pick(sizes);
     let g = random.from(1, m - 1);

@@ -1,8 +1,8 @@
-//! Tests of the library against the solver: random sheets, sessions and sequences of calls, compared after every call, and a failing case made
-//! small and printed so that it can be replayed.
+//! Tests of the library against the solver: random sheets, sessions and sequences of calls, compared after every call, and a failing case
+//! made small and printed so that it can be replayed.
 //!
-//! BELAYKEEL_SEED sets the seed, BELAYKEEL_CALLS how many calls the random tests make, BELAYKEEL_REPLAY a file with a printed case for the test
-//! `replay`. BELAYKEEL_STATICLIB names the directory of libbelaykeel.a where it is not the repository's own.
+//! BELAYKEEL_SEED sets the seed, BELAYKEEL_CALLS how many calls the random tests make, BELAYKEEL_REPLAY a file with a printed case for the
+//! test `replay`. BELAYKEEL_STATICLIB names the directory of libbelaykeel.a where it is not the repository's own.
 
 pub mod case;
 pub mod drive;

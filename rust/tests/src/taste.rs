@@ -5,8 +5,8 @@ use crate::shapes::{self, Size};
 use crate::Random;
 use solver::{Network, Sheet};
 
-/// A sheet of this size: any, one that is not wiped out, or one where testing each setting once or putting back too few fields is not enough.
-/// The latter two are looked for among a few sheets, and may not be found.
+/// A sheet of this size: any, one that is not wiped out, or one where testing each setting once or putting back too few fields is not
+/// enough. The latter two are looked for among a few sheets, and may not be found.
 pub fn sheet(random: &mut Random, size: Size) -> Sheet {
     let (tries, stubborn) = random.pick(&[(1, false), (4, false), (4, false), (24, true)]);
     let tries = match size {

@@ -8,7 +8,8 @@ use tests::sheets::{damage_bytes, damage_numbers, largest, numbers, strings};
 use tests::shrink::shorter;
 use tests::Random;
 
-/// Whether an answer and an output are the solver's: 0, the length and the list at the front of the output, or the number and nothing written.
+/// Whether an answer and an output are the solver's: 0, the length and the list at the front of the output, or the number and nothing
+/// written.
 fn right<T: Copy + PartialEq>(answer: Answer, output: &[T], mark: T, expected: Result<Vec<T>, u32>) -> bool {
     let (number, list) = expected.map_or_else(|number| (number, vec![]), |list| (0, list));
     let front = output.len().min(list.len());

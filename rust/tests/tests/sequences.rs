@@ -1,4 +1,5 @@
-//! Random sequences of calls, each compared with the ledger. BELAYKEEL_CALLS sets how many calls there are, BELAYKEEL_SEED where they start.
+//! Random sequences of calls, each compared with the ledger. BELAYKEEL_CALLS sets how many calls there are, BELAYKEEL_SEED where they
+//! start.
 
 use tests::drive::{environment, sequences, Plan};
 use tests::linked::Linked;

@@ -1,5 +1,5 @@
-//! The public calls of the proved library beside plain Rust, as Markdown tables. Every time is that of a whole call, from the sheet's bytes to
-//! session and offers. With `--long`, three times as many sheets, and twice the time for each.
+//! The public calls of the proved library beside plain Rust, as Markdown tables. Every time is that of a whole call, from the sheet's bytes
+//! to session and offers. With `--long`, three times as many sheets, and twice the time for each.
 
 use belaykeel::Engine;
 use benchmarks::contestants::{libraries, Left, Role, PLAIN, PLAIN_SAC1};
@@ -173,7 +173,8 @@ fn print_noise(first: &[&Line], second: &[Line]) {
         list.sort_by(|a, b| a.0.total_cmp(&b.0));
         let (count, (largest, name)) = (list.len(), &list[list.len() - 1]);
         let [middle, most] = [count / 2, count * 9 / 10].map(|place| list[place].0);
-        println!("- {count} medians of {what} differ by up to {largest:.0} % ({name}), nine in ten by up to {most:.0} %, half by up to {middle:.0} %.");
+        let others = format!("nine in ten by up to {most:.0} %, half by up to {middle:.0} %");
+        println!("- {count} medians of {what} differ by up to {largest:.0} % ({name}), {others}.");
     }
 }
 

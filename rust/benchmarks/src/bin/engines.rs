@@ -108,7 +108,7 @@ fn print_summary(all: &[Measured]) {
     println!("\nEngine 1 at reach 24, median of {} sheets:\n", against(&PLAIN_SAC1).len());
     println!("- {:.2} of the fastest plain SAC-1 of the class;", median(&against(&PLAIN_SAC1)));
     println!("- {:.2} of the fastest that revises one neighbour after the other;", median(&against(&ONE_BY_ONE)));
-    println!("- {:.2} of the fastest of those with a branch for each value.", median(&against(&[Role::Branching])));
+    println!("- {:.2} of the one with a branch for each value.", median(&against(&[Role::Branching])));
 }
 
 /// Every plain SAC-1 against the fastest, at reach 24.

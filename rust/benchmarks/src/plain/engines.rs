@@ -109,7 +109,7 @@ impl<C: Closing> Solver<C> {
         Some(touched)
     }
 
-    /// The singleton test: closes what is left when f is cut to v, over the neighbourhood of f. What the test left, or nothing where it fails.
+    /// The singleton test: closes what is left when f is cut to v, over the neighbourhood of f. What it left, or nothing where it fails.
     #[inline]
     fn test(&self, domains: &Domains, f: usize, v: usize) -> Offers {
         let mut cut = *domains;

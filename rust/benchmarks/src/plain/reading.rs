@@ -18,15 +18,48 @@ trait Source {
     fn ended(&self) -> bool;
 }
 
-/// Numbers in groups of seven bits.
+/// Numbers in groups of seven bits, read by a plain loop.
 struct Bytes<'a>(&'a [u8]);
 
 impl Source for Bytes<'_> {
-    /// Loads four bytes at a time where there are as many.
     #[inline(always)]
     fn next(&mut self) -> Result<u32, u32> {
-        let Some(bytes) = self.0.first_chunk() else {
-            return self.near_the_end();
+        let mut number = 0;
+        for (group, &byte) in self.0.iter().take(4).enumerate() {
+            number |= u32::from(byte & 0x7F) << (7 * group);
+            if byte < 0x80 {
+                self.0 = &self.0[group + 1..];
+                return if byte > 0 || group == 0 { Ok(number) } else { Err(2) };
+            }
+        }
+        Err(if self.0.len() < 4 { 1 } else { 2 })
+    }
+
+    fn ended(&self) -> bool {
+        self.0.is_empty()
+    }
+}
+
+/// The same, read four bytes at a time where there are as many.
+struct Words<'a>(Bytes<'a>);
+
+impl Words<'_> {
+    #[inline(always)]
+    fn taken(&mut self, groups: usize, well_formed: bool, number: u32) -> Result<u32, u32> {
+        self.0 .0 = &self.0 .0[groups..];
+        if well_formed {
+            Ok(number)
+        } else {
+            Err(2)
+        }
+    }
+}
+
+impl Source for Words<'_> {
+    #[inline(always)]
+    fn next(&mut self) -> Result<u32, u32> {
+        let Some(bytes) = self.0 .0.first_chunk() else {
+            return self.0.next();
         };
         let word = u32::from_le_bytes(*bytes);
         if word & 0x80 == 0 {
@@ -40,36 +73,11 @@ impl Source for Bytes<'_> {
         if word & 0x80_0000 == 0 {
             return self.taken(3, word & 0x7F_0000 != 0, three);
         }
-        self.taken(4, word >= 1 << 24 && word < 1 << 31, three | word >> 3 & 0xFE0_0000)
+        self.taken(4, (1 << 24..1 << 31).contains(&word), three | word >> 3 & 0xFE0_0000)
     }
 
     fn ended(&self) -> bool {
-        self.0.is_empty()
-    }
-}
-
-impl Bytes<'_> {
-    #[inline(always)]
-    fn taken(&mut self, groups: usize, well_formed: bool, number: u32) -> Result<u32, u32> {
-        self.0 = &self.0[groups..];
-        if well_formed {
-            Ok(number)
-        } else {
-            Err(2)
-        }
-    }
-
-    /// The next number where fewer than four bytes are left.
-    #[cold]
-    fn near_the_end(&mut self) -> Result<u32, u32> {
-        let mut number = 0;
-        for (group, &byte) in self.0.iter().enumerate() {
-            number |= u32::from(byte & 0x7F) << (7 * group);
-            if byte < 0x80 {
-                return self.taken(group + 1, byte > 0 || group == 0, number);
-            }
-        }
-        Err(1)
+        self.0.ended()
     }
 }
 
@@ -171,11 +179,12 @@ pub fn outline(numbers: &[u32]) -> Result<Outline, u32> {
     check(List(numbers), |_| ())
 }
 
-/// Reads a sheet's bytes in one pass to the front of a list with room for the longest sheet. A refused sheet may leave a part there.
+/// Reads a sheet's bytes in one pass, four at a time, to the front of a list with room for the longest sheet. A refused sheet may leave a
+/// part of itself there.
 pub fn read_at_once(sheet: &[u8], numbers: &mut [u32]) -> Result<Outline, u32> {
     assert!(numbers.len() >= SHEET_NUMBERS);
     let mut length = 0;
-    check(Bytes(sheet), |number| {
+    check(Words(Bytes(sheet)), |number| {
         numbers[length] = number;
         length += 1;
     })
@@ -216,15 +225,15 @@ pub fn write(numbers: &[u32], output: &mut [u8]) -> Answer {
     if output.len() < length {
         return refused(6);
     }
-    let mut rest = &mut output[..length];
+    let mut places = output.iter_mut();
+    let mut put = |byte: u32| *places.next().expect("room for every group") = byte as u8;
     for &number in numbers {
-        let (own, after) = rest.split_at_mut(groups(number));
-        rest = after;
-        let (last, others) = own.split_last_mut().expect("a group");
-        for (group, byte) in others.iter_mut().enumerate() {
-            *byte = (number >> (7 * group)) as u8 | 0x80;
+        let mut rest = number;
+        while rest >= 0x80 {
+            put(rest | 0x80);
+            rest >>= 7;
         }
-        *last = (number >> (7 * others.len())) as u8;
+        put(rest);
     }
     Answer { number: 0, length }
 }

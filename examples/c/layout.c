@@ -1,0 +1,17 @@
+/* The library's layout of a session, in bytes: it reads and writes the parts at these offsets. rust/belaykeel/src/session.rs holds Rust
+ * callers to the same. */
+#include "belaykeel.h"
+
+#define AT(type, part, offset) _Static_assert(offsetof(type, part) == (offset), #part " of " #type)
+#define SIZE(type, bytes) _Static_assert(sizeof(type) == (bytes), "size of " #type)
+
+AT(belaykeel_session, choices, 0);
+AT(belaykeel_session, strikes, 96);
+AT(belaykeel_session, events, 192);
+AT(belaykeel_session, count, 960);
+SIZE(belaykeel_session, 964);
+
+AT(belaykeel_event, kind, 0);
+AT(belaykeel_event, field, 4);
+AT(belaykeel_event, position, 8);
+SIZE(belaykeel_event, 12);
