@@ -9,6 +9,7 @@ pub mod plain;
 #[allow(unsafe_code)]
 pub mod proved;
 pub mod report;
+pub mod role;
 pub mod sheets;
 pub mod task;
 

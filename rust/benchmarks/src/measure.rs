@@ -1,6 +1,6 @@
 //! Times contestants on the same tasks, and compares what they answer.
 
-use crate::contestants::Role;
+use crate::role::Role;
 use std::fmt::Debug;
 use std::hint::black_box;
 use std::time::{Duration, Instant};

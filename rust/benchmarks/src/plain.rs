@@ -8,7 +8,7 @@ mod network;
 mod pairs;
 pub mod reading;
 
-use crate::contestants::Role;
+use crate::role::Role;
 use crate::task::Job;
 use crate::{Offers, MOST, WHOLE_REACH};
 use closing::Closing;

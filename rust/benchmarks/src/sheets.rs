@@ -7,6 +7,7 @@ pub use mill::{Mill, MILLS};
 use crate::WHOLE_REACH;
 use random::Random;
 use solver::{Rule, Sheet};
+use tests::shapes::every;
 
 /// A class of random sheets whose rules are all of kind 0.
 #[derive(Clone, Copy, Debug, PartialEq)]
@@ -31,9 +32,8 @@ impl Class {
         let mut random = Random(seed);
         let (n, d) = (self.fields, self.settings);
         let ruled = random.marks(n * (n - 1) / 2, self.density);
-        let pairs = (0..n).flat_map(|i| (i + 1..n).map(move |j| (i, j)));
         let mut rules = vec![];
-        for ((i, j), _) in pairs.zip(ruled).filter(|&(_, rule)| rule) {
+        for ((i, j), _) in every(n).zip(ruled).filter(|&(_, rule)| rule) {
             let forbidden = random.marks(d * d, self.tightness);
             rules.push(Rule { i, j, kind: 0, numbers: forbidden.chunks(d).map(allowed).collect() });
         }

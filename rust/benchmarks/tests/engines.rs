@@ -1,15 +1,17 @@
 //! The proved engines, the plain ones and the solver agree: on small random sheets with rules of every kind, of all reaches, with random
 //! orders and start sets, and on larger ones without the solver.
 
-use benchmarks::contestants::{engines, Role, PLAIN_SAC1};
+use benchmarks::contestants::engines;
 use benchmarks::measure::agree;
+use benchmarks::role::{Role, PLAIN_SAC1};
 use benchmarks::sheets::Class;
 use benchmarks::task::Job;
 use benchmarks::{Domains, Offers};
 use random::Random;
 use solver::{Network, Rule, Sheet};
-use tests::shapes::{self, Size};
+use tests::shapes::Size;
 use tests::sheets::unequal;
+use tests::taste;
 
 /// A start set: every setting, or some of them.
 fn start(random: &mut Random, full: Domains) -> Domains {
@@ -46,8 +48,8 @@ fn masked_sheet(random: &mut Random) -> Sheet {
 fn agree_with_the_solver() {
     let mut random = Random(1);
     let (mut wiped, mut narrowed, mut untouched) = (0, 0, 0);
-    for round in 0..3000 {
-        let sheet = if round % 2 == 0 { shapes::sheet(&mut random, Size::Small) } else { masked_sheet(&mut random) };
+    for round in 0..6000 {
+        let sheet = if round % 2 == 0 { taste::sheet(&mut random, Size::Small) } else { masked_sheet(&mut random) };
         let job = random_job(&mut random, &sheet);
         let network = Network::of(&sheet);
         let expected = network.offers(job.start);
@@ -60,7 +62,7 @@ fn agree_with_the_solver() {
         }
     }
     println!("{wiped} wiped out, {narrowed} narrowed, {untouched} untouched");
-    assert!(wiped.min(narrowed).min(untouched) > 300, "{wiped} {narrowed} {untouched}");
+    assert!(wiped.min(narrowed).min(untouched) > 600, "{wiped} {narrowed} {untouched}");
 }
 
 #[test]

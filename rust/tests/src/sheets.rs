@@ -1,4 +1,4 @@
-//! Sheets as numbers and bytes, and damaged ones.
+//! Sheets as numbers and bytes, a few fixed ones, and damaged ones.
 
 use crate::shapes::every;
 use crate::Random;

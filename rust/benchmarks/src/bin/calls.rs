@@ -2,9 +2,10 @@
 //! to session and offers. With `--long`, three times as many sheets, and twice the time for each.
 
 use belaykeel::Engine;
-use benchmarks::contestants::{libraries, Left, Role, PLAIN, PLAIN_SAC1};
+use benchmarks::contestants::{libraries, Left};
 use benchmarks::measure::{self, median};
 use benchmarks::report::{apart, heading, row, share, Effort};
+use benchmarks::role::{Role, PLAIN, PLAIN_SAC1};
 use benchmarks::sheets::{growing, Class, Series, Source, HARDEST, PAGES, REACHES};
 use benchmarks::task::{Chosen, Task, CALLS};
 use benchmarks::WHOLE_REACH;

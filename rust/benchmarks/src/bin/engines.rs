@@ -2,9 +2,10 @@
 //! included. With `--long`, three times as many sheets, and twice the time for each.
 
 use belaykeel::Engine;
-use benchmarks::contestants::{engines, Role, ONE_BY_ONE, PLAIN_SAC1};
+use benchmarks::contestants::engines;
 use benchmarks::measure::{self, median, Column};
 use benchmarks::report::{apart, heading, row, share, Effort};
+use benchmarks::role::{Role, ONE_BY_ONE, PLAIN_SAC1};
 use benchmarks::sheets::{growing, Class, REACHES};
 use benchmarks::task::Job;
 use benchmarks::{Offers, WHOLE_REACH};
