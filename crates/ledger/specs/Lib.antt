@@ -2,6 +2,7 @@
 pub mod Occurrences
 pub mod Ledger
 -- what holds of it
+pub mod Cases
 pub mod Kinds
 pub mod Causes
 pub mod Judging
@@ -9,4 +10,3 @@ pub mod Laws
 pub mod Orders
 pub mod Sound
 pub mod Theorems
-pub mod Cases
