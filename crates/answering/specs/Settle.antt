@@ -33,7 +33,7 @@ use Rattle.network.specs.Network.{problemIn, NetworkOf}
 use Rattle.closing.specs.Asks.{Masks}
 use Rattle.engines.specs.Engine.{IsOrder, Engine, Offered}
 use Rattle.engines.specs.EngineAsks.{RunAsks}
-use Rattle.engines.specs.Answers.{run-asks, run-answers}
+use Rattle.engines.specs.Answers.{run-asks, answers}
 use Rattle.ledger.specs.Ledger.{Decision, Ledger, settings, starts, startSet, offersOf, wiped, isOrder}
 use Rattle.ledger.specs.Orders.{order-sized, order-low, order-every}
 use Rattle.session.specs.Start.{startMasks, start-padded}
@@ -208,7 +208,7 @@ module _ (xs : List ℕ) (o : Outline) (net : Network) (rows : List ℕ) (p : Pr
   start = rw (p .outline) at e
 
   ran : Offered (sheetProblem xs) (reachOf xs) m w R
-  ran = run-answers xs (p .accepted) net (forwardOf rows) (turnedOf rows) (p .network) m w R r
+  ran = answers xs (p .accepted) net (forwardOf rows) (turnedOf rows) (p .network) m w R r
 
   pub settled-wiped : w ≡ true → Settled xs l before true before
   settled-wiped y = record { wipes = sym y ∙ found-wiped xs (p .accepted) l m R start w ran; offers = sym (pick-true _ _ _ refl) }

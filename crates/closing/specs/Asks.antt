@@ -68,7 +68,8 @@ module _ (n : ℕ) (joined forward turned : List ℕ) (S : List ℕ) (a : LiveAs
   cut-masks f v = record { long = length-cut S f v ∙ a .masks .long; small = small-⊆ S (cut S f v) (cut-⊆ S f v) (a .masks .small) }
 
   -- what closing asks of the cut set, and of the set without a setting
-  pub cut-asks : (W f v : ℕ) → Within W (allFields P) → bit W f ≡ true → has S f v ≡ true → CloseAsks n joined forward turned W (2 ^ f) (cut S f v)
+  pub cut-asks : (W f v : ℕ) → Within W (allFields P) → bit W f ≡ true → has S f v ≡ true
+      → CloseAsks n joined forward turned W (2 ^ f) (cut S f v)
   cut-asks W f v w b e = record {
     wired = a .wired;
     masks = cut-masks f v;
@@ -78,7 +79,8 @@ module _ (n : ℕ) (joined forward turned : List ℕ) (S : List ℕ) (a : LiveAs
     full = cut-full P W S f v e (a .live .full);
   }
 
-  pub lose-asks : (f v : ℕ) → has S f v ≡ true → empty (lose S f v) f ≡ false → CloseAsks n joined forward turned (allFields P) (2 ^ f) (lose S f v)
+  pub lose-asks : (f v : ℕ) → has S f v ≡ true → empty (lose S f v) f ≡ false
+      → CloseAsks n joined forward turned (allFields P) (2 ^ f) (lose S f v)
   unfolding problemOf
   lose-asks f v e z = record {
     wired = a .wired;
@@ -88,7 +90,8 @@ module _ (n : ℕ) (joined forward turned : List ℕ) (S : List ℕ) (a : LiveAs
     ready = lose-ready P S f v (a .live .shut);
     full = λ g i. ⊎-elim (λ q. rw q z)
         (λ q. let s = empty-not S g (a .live .full g i) in
-        not-so (empty (lose S f v) g) (λ y. never (lose-by S f v g (s .0) (s .1) (λ x _. q x)) (empty-at (lose S f v) g (s .0) y))) (eq-cases g f);
+        not-so (empty (lose S f v) g) (λ y. never (lose-by S f v g (s .0) (s .1) (λ x _. q x)) (empty-at (lose S f v) g (s .0) y)))
+        (eq-cases g f);
   }
 
   lose-shrunk : (f v : ℕ) → has S f v ≡ true → Shrunk S (lose S f v) (2 ^ f)
@@ -105,14 +108,16 @@ module _ (n : ℕ) (joined forward turned : List ℕ) (S : List ℕ) (a : LiveAs
   removed-empty f v e z = record {
     sized = length-lose S f v;
     wipes = sym (ap not (not-so (noneEmpty P (allFields P) (closing P (allFields P) (lose S f v))) (λ n.
-        never (empty-by (closing P (allFields P) (lose S f v)) f (λ u i. never (closing-is P (allFields P) (lose S f v) .inside f u i) (empty-at (lose S f v) f u z)))
+        never (empty-by (closing P (allFields P) (lose S f v)) f
+        (λ u i. never (closing-is P (allFields P) (lose S f v) .inside f u i) (empty-at (lose S f v) f u z)))
         (noneEmpty-at P (allFields P) (closing P (allFields P) (lose S f v)) n f (in-allFields P f (a .live .on f v e))))));
     made = λ q. absurd (true≢false q);
     shrunk = λ q. absurd (true≢false q);
     marks = λ q. absurd (true≢false q);
   }
 
-  pub removed-closed : (f v : ℕ) → has S f v ≡ true → (wiped : Bool) (changed : ℕ) (R : List ℕ) → Closes P (allFields P) (lose S f v) wiped changed R
+  pub removed-closed : (f v : ℕ) → has S f v ≡ true → (wiped : Bool) (changed : ℕ) (R : List ℕ)
+      → Closes P (allFields P) (lose S f v) wiped changed R
       → Removed P S f v wiped (bitOr (2 ^ f) changed) R
   unfolding problemOf
   removed-closed f v e wiped changed R c = record {
@@ -120,10 +125,12 @@ module _ (n : ℕ) (joined forward turned : List ℕ) (S : List ℕ) (a : LiveAs
     wipes = c .wipes;
     made = c .made;
     shrunk = λ q. shrunk-then (lose-shrunk f v e) (c .shrunk q);
-    marks = λ q. or-within (2 ^ f) changed (allFields P) (one-within (allFields P) f (in-allFields P f (a .live .on f v e) .1)) (c .marks q);
+    marks = λ q. or-within (2 ^ f) changed (allFields P) (one-within (allFields P) f (in-allFields P f (a .live .on f v e) .1))
+        (c .marks q);
   }
 
 -- a mask of the problem's fields is small
-pub fields-small : (n : ℕ) (joined forward turned : List ℕ) (W : ℕ) → n ≤ mostFields → Within W (allFields (problemOf n joined forward turned)) → W < 2 ^ mostFields
+pub fields-small : (n : ℕ) (joined forward turned : List ℕ) (W : ℕ) → n ≤ mostFields
+    → Within W (allFields (problemOf n joined forward turned)) → W < 2 ^ mostFields
 unfolding allFields problemOf
 fields-small n joined forward turned W h w = lt-of-le-of-lt (within-le W _ w) (lt-of-lt-of-le (maskOf-lt n _) (pow-mono h))

@@ -23,7 +23,8 @@ use Rattle.closing.specs.Shrunk.{or-not, or-within, Shrunk, shrunk-none,
 module _ (P : Problem) where
   -- each setting of a field of W has its partners in the fields of W that are not in `changed`
   abbrev pub Ready : ℕ → ℕ → List ℕ → Type 0
-  Ready W changed S = (f g : ℕ) → In P W f → In P W g → P .joined f g ≡ true → bit changed g ≡ false → (u : ℕ) → has S f u ≡ true → Partner P S f u g
+  Ready W changed S =
+      (f g : ℕ) → In P W f → In P W g → P .joined f g ≡ true → bit changed g ≡ false → (u : ℕ) → has S f u ≡ true → Partner P S f u g
 
   -- nothing changed: closed
   pub ready-closed : (W : ℕ) (S : List ℕ) → Ready W 0 S → Closed P W S
@@ -56,7 +57,8 @@ module _ (P : Problem) where
 
     revise-at : (f u : ℕ) → In P W f → P .joined f g ≡ true → has (revise W S g) f u ≡ true → Partner P S f u g
     unfolding revise
-    revise-at f u i j e = partner-at P S f u g (⇒-at (meets W g f) _ (only-at (λ f u. meets W g f ⇒ partner P S f u g) S f u e) (meets-by f i j))
+    revise-at f u i j e =
+        partner-at P S f u g (⇒-at (meets W g f) _ (only-at (λ f u. meets W g f ⇒ partner P S f u g) S f u e) (meets-by f i j))
 
     revise-by : (f u : ℕ) → has S f u ≡ true → (In P W f → P .joined f g ≡ true → Partner P S f u g) → has (revise W S g) f u ≡ true
     unfolding revise
@@ -78,7 +80,8 @@ module _ (P : Problem) where
     revise-empty i f z = empty-by (closing P W S) f (λ v e. never (closing-in-revise i f v e) (empty-at (revise W S g) f v z))
 
     -- afterwards g counts as unchanged, and what changed is changed
-    pub revise-ready : (old changed : ℕ) → Ready W old S → Shrunk S (revise W S g) changed → Ready W (bitOr (clear old g) changed) (revise W S g)
+    pub revise-ready : (old changed : ℕ) → Ready W old S → Shrunk S (revise W S g) changed
+        → Ready W (bitOr (clear old g) changed) (revise W S g)
     revise-ready old changed r s f h i j k n u e =
         let q = or-not (clear old g) changed h n in
         let x = before (q .0) in
@@ -133,7 +136,8 @@ module _ (P : Problem) where
       inW = (l, p .lefts g b)
 
       -- a field has nothing left
-      pub closing-none : (f : ℕ) → In P W f → empty (revise W S g) f ≡ true → (R : List ℕ) → length R ≡ length S0 → (any : ℕ) → Closes W S0 true any R
+      pub closing-none : (f : ℕ) → In P W f → empty (revise W S g) f ≡ true → (R : List ℕ) → length R ≡ length S0 → (any : ℕ)
+          → Closes W S0 true any R
       closing-none f i z R e any = record {
         sized = e;
         wipes = sym (ap not (not-so (noneEmpty P W (closing P W S0)) (λ n.
@@ -143,7 +147,8 @@ module _ (P : Problem) where
         marks = λ q. absurd (true≢false q);
       }
 
-      module _ (changed : ℕ) (s : Shrunk S (revise W S g) changed) (m : Within changed W) (n : (f : ℕ) → empty S f ≡ false → empty (revise W S g) f ≡ false) where
+      module _ (changed : ℕ) (s : Shrunk S (revise W S g) changed) (m : Within changed W)
+          (n : (f : ℕ) → empty S f ≡ false → empty (revise W S g) f ≡ false) where
         pub closing-turn : Closing W S0 (bitOr (clear left g) changed) (bitOr touched changed) (revise W S g)
         closing-turn = record {
           same = closing-revise W S g inW ∙ p .same;
@@ -154,7 +159,8 @@ module _ (P : Problem) where
           full = λ f i. n f (p .full f i);
         }
 
-        pub closing-less : W < 2 ^ mostFields → count (revise W S g) * 2 ^ mostFields + bitOr (clear left g) changed < count S * 2 ^ mostFields + left
+        pub closing-less : W < 2 ^ mostFields
+            → count (revise W S g) * 2 ^ mostFields + bitOr (clear left g) changed < count S * 2 ^ mostFields + left
         closing-less w =
             shrunk-measure s left (bitOr (clear left g) changed) (lt-of-le-of-lt (within-le _ W (closing-turn .lefts)) w)
             (λ z. rw (z, or-zero-r) (clear-lt left g b))

@@ -53,7 +53,8 @@ module _ (n : ℕ) (joined forward turned : List ℕ) (W changed0 : ℕ) (S0 : L
     keep f = unionOf (rowsOf forward turned g f) (getD S g 0)
 
     -- what `spread` asks
-    pub spread-asks : Masks S × (g < mostFields) × (near < 2 ^ mostFields) × (bit near g ≡ false) × (tableWords ≤ length forward) × (tableWords ≤ length turned)
+    pub spread-asks : Masks S × (g < mostFields) × (near < 2 ^ mostFields) × (bit near g ≡ false) × (tableWords ≤ length forward)
+        × (tableWords ≤ length turned)
     spread-asks = (
       record { long = i .shrunk .sized ∙ a .masks .long; small = small },
       (let l = in-W in let m = a .wired .few in omega arith),
@@ -71,7 +72,8 @@ module _ (n : ℕ) (joined forward turned : List ℕ) (W changed0 : ℕ) (S0 : L
           let x = s .none refl in
           let m = near-at (x .0) (x .1) in
           closing-none P W S0 left touched S g i b in-W (x .0) (bound (x .0) (m .1), m .1)
-          (ap (λ (Q : List ℕ). empty Q (x .0)) (sym (keep-revise n joined forward turned (a .wired) W S small g)) ∙ x .2) R (s .sized ∙ i .shrunk .sized) any
+          (ap (λ (Q : List ℕ). empty Q (x .0)) (sym (keep-revise n joined forward turned (a .wired) W S small g)) ∙ x .2) R
+          (s .sized ∙ i .shrunk .sized) any
 
       module _ (s : Spread near keep S false changed R) where
         is-revised : R ≡ revise P W S g
@@ -82,9 +84,13 @@ module _ (n : ℕ) (joined forward turned : List ℕ) (W changed0 : ℕ) (S0 : L
 
         pub turn-next : Closing P W S0 (bitOr (clear left g) changed) (bitOr touched changed) R
         unfolding problemOf
-        turn-next = rw is-revised (closing-turn P W S0 left touched S g i b in-W changed (rw is-revised at (s .shrunk refl)) marks (rw is-revised at (s .full refl)))
+        turn-next =
+            rw is-revised (closing-turn P W S0 left touched S g i b in-W changed (rw is-revised at (s .shrunk refl)) marks
+            (rw is-revised at (s .full refl)))
 
         pub turn-less : count R * 2 ^ mostFields + bitOr (clear left g) changed < count S * 2 ^ mostFields + left
         unfolding problemOf
-        turn-less = rw is-revised (closing-less P W S0 left touched S g i b in-W changed (rw is-revised at (s .shrunk refl)) marks (rw is-revised at (s .full refl))
+        turn-less = rw is-revised
+            (closing-less P W S0 left touched S g i b in-W changed (rw is-revised at (s .shrunk refl)) marks
+            (rw is-revised at (s .full refl))
             (fields-small n joined forward turned W (a .wired .few) (a .fields)))

@@ -10,11 +10,14 @@ use Rattle.masks.specs.Tests.{never, not-so, bool-cases, eq-cases}
 use Rattle.masks.specs.Bits.{Within}
 use Rattle.masks.specs.Words.{bit-one}
 use Rattle.masks.specs.Sets.{has, has-mask, _⊆_, only, only-⊆, only-at, only-by}
-use Rattle.masks.specs.Settings.{cut, cut-⊆, cut-at, cut-by, length-cut, lose, lose-⊆, lose-by, lose-at, empty, empty-at, empty-not, someEmpty}
+use Rattle.masks.specs.Settings.{cut, cut-⊆, cut-at, cut-by, length-cut, lose, lose-⊆, lose-by, lose-at, empty, empty-at}
+use Rattle.masks.specs.Settings.{empty-not, someEmpty}
 use Rattle.consistency.specs.Problem.{Problem, In, allFields, in-allFields}
 use Rattle.consistency.specs.Closing.{Closed, closing, closing-is}
 use Rattle.consistency.specs.Neighbourhood.{neighbourhood}
-use Rattle.consistency.specs.Offers.{NoneEmpty, noneEmpty, noneEmpty-at, noneEmpty-by, noneEmpty-mono, left, passesOver, passesOver-at, passesOver-by, witness-at, witness-by, passes, offers, offers-is, offers-lose, offers-between, wipedOut, wipedOut-by}
+use Rattle.consistency.specs.Offers.{NoneEmpty, noneEmpty, noneEmpty-at, noneEmpty-by, noneEmpty-mono, left, passesOver}
+use Rattle.consistency.specs.Offers.{passesOver-at, passesOver-by, witness-at, witness-by, passes, offers, offers-is, offers-lose}
+use Rattle.consistency.specs.Offers.{offers-between, wipedOut, wipedOut-by}
 use Rattle.consistency.specs.Order.{offers-in-closing}
 use Rattle.closing.specs.Shrunk.{Shrunk}
 use Rattle.closing.specs.Close.{Ready, Closes}
@@ -47,7 +50,8 @@ module _ (P : Problem) where
     pub passed : ok ≡ passesOver P W S f v
     pub rest : ok ≡ true → R ≡ left P W S f v
 
-  pub tested : (W : ℕ) (S : List ℕ) (f v : ℕ) (wiped : Bool) (touched : ℕ) (R : List ℕ) → Closes P W (cut S f v) wiped touched R → Tested W S f v (not wiped) R
+  pub tested : (W : ℕ) (S : List ℕ) (f v : ℕ) (wiped : Bool) (touched : ℕ) (R : List ℕ) → Closes P W (cut S f v) wiped touched R
+      → Tested W S f v (not wiped) R
   unfolding passesOver
   tested W S f v wiped touched R c = record {
     sized = c .sized ∙ length-cut S f v;
@@ -80,7 +84,8 @@ module _ (P : Problem) where
         let x = witness-at P W S f v (passesOver-at P W S f v e) in
         passesOver-by P W R f v (witness-by P W R f v meet (record {
           inside = λ g u b. only-at (has (cut R f v)) (left P W S f v) g u b;
-          shut = λ g u b i k j q. let s = x .shut g u (only-⊆ (has (cut R f v)) (left P W S f v) g u b) i k j q in (s .0, meet-by k (s .0) j (s .1), s .2);
+          shut = λ g u b i k j q. let s = x .shut g u (only-⊆ (has (cut R f v)) (left P W S f v) g u b) i k j q in
+              (s .0, meet-by k (s .0) j (s .1), s .2);
           full = λ g i. let s = empty-not (left P W S f v) g (x .full g i) in
               not-so (empty meet g) (λ z. never (meet-by g (s .0) i (s .1)) (empty-at meet g (s .0) z));
         }))
@@ -123,7 +128,8 @@ module _ (P : Problem) where
     offers-in-rest : Reaches W f (λ k. offers P k S ⊆ closing P (allFields P) (lose S f v))
     unfolding passes
     offers-in-rest k o w =
-        offers-in-closing P k o S (lose S f v) (offers-lose P k S S (offers-is P k S .inside) f v (ap (λ (Z : ℕ). passesOver P Z S f v) (sym w) ∙ fails))
+        offers-in-closing P k o S (lose S f v)
+        (offers-lose P k S S (offers-is P k S .inside) f v (ap (λ (Z : ℕ). passesOver P Z S f v) (sym w) ∙ fails))
 
     module _ (wiped : Bool) (touched : ℕ) (R : List ℕ) (r : Removed S f v wiped touched R) where
       pub removed-none : wiped ≡ true → Reaches W f (λ k. wipedOut P k S ≡ true)
@@ -142,4 +148,5 @@ module _ (P : Problem) where
 
         -- the setting itself is gone
         pub removed-gone : has R f v ≡ true → ⊥
-        removed-gone h = lose-at S f v (closing-is P (allFields P) (lose S f v) .inside f v (ap (λ (Q : List ℕ). has Q f v) (sym (r .made e)) ∙ h))
+        removed-gone h =
+            lose-at S f v (closing-is P (allFields P) (lose S f v) .inside f v (ap (λ (Q : List ℕ). has Q f v) (sym (r .made e)) ∙ h))

@@ -38,14 +38,16 @@ module _ (n : ℕ) (joined forward turned : List ℕ) (wired : Wired n joined fo
         meets-by P W S g f (wired .ends g f j .1, and-r (bit (getD joined g 0) f) _ e) (wired .symmetric .joins f g ∙ j))
         (λ e. let m = meets-at P W S g f e in and-by _ _ (wired .symmetric .joins g f ∙ m .1) (m .0 .1))
 
-    union-partner : (f u : ℕ) → has S f u ≡ true → P .joined f g ≡ true → bit (unionOf (rowsOf forward turned g f) (getD S g 0)) u ≡ partner P S f u g
+    union-partner : (f u : ℕ) → has S f u ≡ true → P .joined f g ≡ true
+        → bit (unionOf (rowsOf forward turned g f) (getD S g 0)) u ≡ partner P S f u g
     unfolding problemOf has
     union-partner f u e j =
         iff-eq _ _
         (λ b. let x = union-at (rowsOf forward turned g f) (getD S g 0) mostSettings u b in
         partner-by P S f u g (x .0, x .1, wired .symmetric .allows f g u (x .0) ∙ and-by _ _ (wired .symmetric .joins g f ∙ j) (x .2)))
         (λ b. let x = partner-at P S f u g b in
-        union-by (rowsOf forward turned g f) (getD S g 0) mostSettings u (x .0) (let i = bit-bound mostSettings (getD S f 0) u (small f) e in omega arith)
+        union-by (rowsOf forward turned g f) (getD S g 0) mostSettings u (x .0)
+        (let i = bit-bound mostSettings (getD S f 0) u (small f) e in omega arith)
         (bit-bound mostSettings (getD S g 0) (x .0) (small g) (x .1)) (x .1)
         (and-r (bit (getD joined g 0) f) _ (wired .symmetric .allows g f (x .0) u ∙ x .2)))
 

@@ -70,7 +70,8 @@ module _ (near : ℕ) (keep : ℕ → ℕ) (S0 : List ℕ) where
       stays false c = refl
 
       only-all-here : only (λ f u. bit near f && not (bit near f) ⇒ bit (keep f) u) S0 ≡ S0
-      only-all-here = has-ext _ S0 (length-only _ S0) (λ f u. has-only _ S0 f u ∙ rw (stays (bit near f) (bit (keep f) u)) (and-true (has S0 f u)))
+      only-all-here =
+          has-ext _ S0 (length-only _ S0) (λ f u. has-only _ S0 f u ∙ rw (stays (bit near f) (bit (keep f) u)) (and-true (has S0 f u)))
 
   pub spreading-end : (nb changed : ℕ) (S : List ℕ) → nb ≡ 0 → Spreading nb changed S → Spread false changed S
   unfolding done passed keepNear
@@ -87,13 +88,17 @@ module _ (near : ℕ) (keep : ℕ → ℕ) (S0 : List ℕ) where
       (k : new ≡ bitAnd (getD S f 0) (keep f)) where
     bit-new : (u : ℕ) → bit new u ≡ (has S0 f u && bit (keep f) u)
     unfolding has
-    bit-new u = ap (λ (x : ℕ). bit x u) k ∙ bit-and (getD S f 0) (keep f) u ∙ ap (λ (t : Bool). t && bit (keep f) u) (ap (λ (R : List ℕ). has R f u) (p .made) ∙ coming nb f b u)
+    bit-new u =
+        ap (λ (x : ℕ). bit x u) k ∙ bit-and (getD S f 0) (keep f) u
+        ∙ ap (λ (t : Bool). t && bit (keep f) u) (ap (λ (R : List ℕ). has R f u) (p .made) ∙ coming nb f b u)
 
     set-done : set S f new ≡ done (clear nb f)
     unfolding done passed
     set-done =
         has-ext (set S f new) (done (clear nb f)) (length-set S f new ∙ p .shrunk .sized ∙ sym (length-only _ S0))
-        (λ g u. ⊎-elim (λ q. rw q (here u)) (λ q. has-set-other S f new h g q u ∙ ap (λ (R : List ℕ). has R g u) (p .made) ∙ has-done nb g u ∙ sym (has-done (clear nb f) g u ∙ rw (clear-other nb f g q))) (eq-cases g f))
+        (λ g u. ⊎-elim (λ q. rw q (here u))
+        (λ q. has-set-other S f new h g q u ∙ ap (λ (R : List ℕ). has R g u) (p .made) ∙ has-done nb g u
+        ∙ sym (has-done (clear nb f) g u ∙ rw (clear-other nb f g q))) (eq-cases g f))
       where
         here : (u : ℕ) → has (set S f new) f u ≡ has (done (clear nb f)) f u
         here u = has-set-same S f new h u ∙ bit-new u ∙ sym (has-done (clear nb f) f u ∙ rw (p .lefts f b, clear-same nb f))
@@ -118,8 +123,10 @@ module _ (near : ℕ) (keep : ℕ → ℕ) (S0 : List ℕ) where
       made = set-done;
       lefts = lefts-clear;
       marks = or-within changed (2 ^ f) near (p .marks) (one-within near f (p .lefts f b));
-      shrunk = shrunk-then (p .shrunk) (shrunk-set S f new h (λ u e. and-l _ _ (sym (bit-and (getD S f 0) (keep f) u) ∙ sym (ap (λ (x : ℕ). bit x u) k) ∙ e)) d);
-      full = λ g e. ⊎-elim (λ q. ap (λ (x : ℕ). eqb x 0) (ap (λ (i : ℕ). getD (set S f new) i 0) q ∙ getD-set-same S f new 0 h) ∙ ne-eqb new 0 z)
+      shrunk = shrunk-then (p .shrunk)
+          (shrunk-set S f new h (λ u e. and-l _ _ (sym (bit-and (getD S f 0) (keep f) u) ∙ sym (ap (λ (x : ℕ). bit x u) k) ∙ e)) d);
+      full = λ g e. ⊎-elim
+          (λ q. ap (λ (x : ℕ). eqb x 0) (ap (λ (i : ℕ). getD (set S f new) i 0) q ∙ getD-set-same S f new 0 h) ∙ ne-eqb new 0 z)
           (λ q. ap (λ (x : ℕ). eqb x 0) (getD-set-other S f g new 0 q) ∙ p .full g e) (eq-cases g f);
     }
 
@@ -132,5 +139,11 @@ module _ (near : ℕ) (keep : ℕ → ℕ) (S0 : List ℕ) where
       marks = λ e. absurd (true≢false e);
       shrunk = λ e. absurd (true≢false e);
       full = λ e. absurd (true≢false e);
-      none = λ _. (f, p .lefts f b, empty-by _ f (λ u e. never (bit-new u ∙ (rw (has-only (λ f u. bit near f ⇒ bit (keep f) u) S0 f u, p .lefts f b) at e)) (ap (λ (x : ℕ). bit x u) z ∙ bit-of-zero u)));
+      none = λ _. (
+        f,
+        p .lefts f b,
+        empty-by _ f
+            (λ u e. never (bit-new u ∙ (rw (has-only (λ f u. bit near f ⇒ bit (keep f) u) S0 f u, p .lefts f b) at e))
+            (ap (λ (x : ℕ). bit x u) z ∙ bit-of-zero u)),
+      );
     }

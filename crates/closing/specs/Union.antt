@@ -30,7 +30,8 @@ module _ (rows : List ℕ) (own : ℕ) where
   union-at zero u e = absurd (never e (bit-of-zero u))
   union-at (suc w) u e =
       ⊎-elim (union-at w u)
-      (λ q. let p = sym (bit-and (getD rows w 0) (flood own w) u) ∙ q in (w, flood-at own w u (and-r (bit (getD rows w 0) u) _ p), and-l _ _ p))
+      (λ q. let p = sym (bit-and (getD rows w 0) (flood own w) u) ∙ q in
+      (w, flood-at own w u (and-r (bit (getD rows w 0) u) _ p), and-l _ _ p))
       (or-at (bit (unionBelow w rows own) u) _ (sym (bit-or (unionBelow w rows own) (bitAnd (getD rows w 0) (flood own w)) u) ∙ e))
 
   pub union-by : (w u v : ℕ) → u < 32 → v < w → bit own v ≡ true → bit (getD rows v 0) u ≡ true → bit (unionBelow w rows own) u ≡ true
@@ -87,7 +88,9 @@ module _ (rows masks : List ℕ) where
     narrow : (w n : ℕ) → w ≤ n → own < 2 ^ w → unionBelow n rows own ≡ unionBelow w rows own
     unfolding unionBelow
     narrow w zero l h = let z : w ≡ 0 = omega arith in rw z
-    narrow w (suc n) l h = ⊎-elim (λ q. rw q) (λ q. rw (none (le-of-suc-le-suc q)) (or-zero-r (unionBelow n rows own) ∙ narrow w n (le-of-suc-le-suc q) h)) (eq-or-lt-of-le l)
+    narrow w (suc n) l h = ⊎-elim (λ q. rw q)
+        (λ q. rw (none (le-of-suc-le-suc q)) (or-zero-r (unionBelow n rows own) ∙ narrow w n (le-of-suc-le-suc q) h))
+        (eq-or-lt-of-le l)
       where
         none : w ≤ n → bitAnd (getD rows n 0) (flood own n) ≡ 0
         none l = rw (flood-none own n (bit-high w own n h l)) (and-zero-r (getD rows n 0))

@@ -36,7 +36,8 @@ fn kept<'a>(
     own: u32,
     d: u32,
 ) -> u32
-    requires { ⌜ (g < mostFields) × (f < mostFields) × (g ≡ f → ⊥) × (tableWords ≤ length (now forward)) × (tableWords ≤ length (now turned)) × Floods own mostSettings (now masks) ⌝ }
+    requires { ⌜ (g < mostFields) × (f < mostFields) × (g ≡ f → ⊥) × (tableWords ≤ length (now forward))
+        × (tableWords ≤ length (now turned)) × Floods own mostSettings (now masks) ⌝ }
     ensures { λ r. ⌜ r ≡ bitAnd d (unionOf (rowsOf (now (forward .entry)) (now (turned .entry)) g f) own) ⌝ }
 {
     let rows = row(forward, turned, g, f);
@@ -51,8 +52,10 @@ fn spread<'a>(
     forward: &'a [u32],
     turned: &'a [u32],
 ) -> Narrowed
-    requires { ⌜ Masks (now m) × (g < mostFields) × (near < 2 ^ mostFields) × (bit near g ≡ false) × (tableWords ≤ length (now forward)) × (tableWords ≤ length (now turned)) ⌝ }
-    ensures { λ r. ⌜ Spread near (λ f. unionOf (rowsOf (now (forward .entry)) (now (turned .entry)) g f) (getD (now (m .entry)) g 0)) (now (m .entry)) (r .wiped) (r .changed) (now (m .exit)) ⌝ }
+    requires { ⌜ Masks (now m) × (g < mostFields) × (near < 2 ^ mostFields) × (bit near g ≡ false)
+        × (tableWords ≤ length (now forward)) × (tableWords ≤ length (now turned)) ⌝ }
+    ensures { λ r. ⌜ Spread near (λ f. unionOf (rowsOf (now (forward .entry)) (now (turned .entry)) g f) (getD (now (m .entry)) g 0))
+        (now (m .entry)) (r .wiped) (r .changed) (now (m .exit)) ⌝ }
 {
     let own = m[g];
     let masks = floods(own);
@@ -103,7 +106,8 @@ pub fn close<'a>(
     turned: &'a [u32],
 ) -> Narrowed
     requires { ⌜ CloseAsks n (now joined) (now forward) (now turned) within changed (now m) ⌝ }
-    ensures { λ r. ⌜ Closes (problemOf n (now (joined .entry)) (now (forward .entry)) (now (turned .entry))) within (now (m .entry)) (r .wiped) (r .changed) (now (m .exit)) ⌝ }
+    ensures { λ r. ⌜ Closes (problemOf n (now (joined .entry)) (now (forward .entry)) (now (turned .entry))) within
+        (now (m .entry)) (r .wiped) (r .changed) (now (m .exit)) ⌝ }
 {
     let mut left = changed;
     let mut sweep = changed;

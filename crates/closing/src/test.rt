@@ -39,7 +39,8 @@ pub fn test<'a>(
     turned: &'a [u32],
 ) -> bool
     requires { ⌜ (f < mostFields) × CloseAsks n (now joined) (now forward) (now turned) within (2 ^ f) (now t) ⌝ }
-    ensures { λ r. ⌜ ((S : List ℕ) (v : ℕ) → now (t .entry) ≡ cut S f v → Tested (problemOf n (now (joined .entry)) (now (forward .entry)) (now (turned .entry))) within S f v r (now (t .exit))) ⌝ }
+    ensures { λ r. ⌜ ((S : List ℕ) (v : ℕ) → now (t .entry) ≡ cut S f v
+        → Tested (problemOf n (now (joined .entry)) (now (forward .entry)) (now (turned .entry))) within S f v r (now (t .exit))) ⌝ }
 {
     let r = close(t, n, within, one_bit(f), joined, forward, turned);
     !r.wiped
@@ -56,7 +57,8 @@ pub fn remove<'a>(
     turned: &'a [u32],
 ) -> Narrowed
     requires { ⌜ LiveAsks n (now joined) (now forward) (now turned) (now m) × (has (now m) f v ≡ true) ⌝ }
-    ensures { λ r. ⌜ Removed (problemOf n (now (joined .entry)) (now (forward .entry)) (now (turned .entry))) (now (m .entry)) f v (r .wiped) (r .changed) (now (m .exit)) ⌝ }
+    ensures { λ r. ⌜ Removed (problemOf n (now (joined .entry)) (now (forward .entry)) (now (turned .entry)))
+        (now (m .entry)) f v (r .wiped) (r .changed) (now (m .exit)) ⌝ }
 {
     if lose_in(m, f, v) {
         return Narrowed {

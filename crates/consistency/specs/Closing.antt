@@ -11,7 +11,8 @@ use Rattle.masks.specs.Tests.{and-l, and-r, and-by, _⇒_, ⇒-at, ⇒-by, allB
 use Rattle.masks.specs.Bits.{bit, Within}
 use Rattle.masks.specs.Masks.{someBit, someBit-at, someBit-by}
 use Rattle.masks.specs.Sets.{has, _⊆_}
-use Rattle.consistency.specs.Largest.{IsLargest, IsLargest-mono, IsLargest-stricter, IsLargest-iff, IsLargest-unique, IsLargest-self, IsLargest-between, Test, Monotone, AllPass, largest, largest-is}
+use Rattle.consistency.specs.Largest.{IsLargest, IsLargest-mono, IsLargest-stricter, IsLargest-iff, IsLargest-unique}
+use Rattle.consistency.specs.Largest.{IsLargest-self, IsLargest-between, Test, Monotone, AllPass, largest, largest-is}
 use Rattle.consistency.specs.Problem.{Problem, In}
 
 module _ (P : Problem) where
@@ -52,7 +53,8 @@ module _ (P : Problem) where
   unfolding supported supportedBy
   supported-at W S f v e i g j k =
       let each = ⇒-at (ltb f (P .fields) && bit W f) _ e (and-by _ _ (lt-ltb f (P .fields) (i .0)) (i .1)) in
-      partner-at S f v g (⇒-at (bit W g && P .joined f g) _ (allBelow-at (P .fields) (supportedBy W S f v) each g (j .0)) (and-by _ _ (j .1) k))
+      partner-at S f v g (⇒-at (bit W g && P .joined f g) _ (allBelow-at (P .fields) (supportedBy W S f v) each g (j .0))
+      (and-by _ _ (j .1) k))
 
   pub supported-by : (W : ℕ) (S : List ℕ) (f v : ℕ) → Supported W S f v → supported W S f v ≡ true
   unfolding supported supportedBy
@@ -95,4 +97,5 @@ module _ (P : Problem) where
   closed-wider W Z h S c f v e i g j = c f v e (i .0, h f (i .1)) g (j .0, h g (j .1))
 
   pub closing-wider : (W Z : ℕ) → Within W Z → (S : List ℕ) → closing Z S ⊆ closing W S
-  closing-wider W Z h S = IsLargest-stricter (Closed Z) (Closed W) (closed-wider W Z h) S (closing Z S) (closing W S) (closing-is Z S) (closing-is W S)
+  closing-wider W Z h S =
+      IsLargest-stricter (Closed Z) (Closed W) (closed-wider W Z h) S (closing Z S) (closing W S) (closing-is Z S) (closing-is W S)

@@ -10,7 +10,8 @@ use Rattle.masks.specs.Tests.{never, not-so, _⇒_, ⇒-at, ⇒-by, allBelow, a
 use Rattle.masks.specs.Bits.{bit}
 use Rattle.masks.specs.Sets.{has, _⊆_}
 use Rattle.masks.specs.Settings.{cut, cut-⊆, cut-mono, lose, empty, empty-at, empty-by, empty-not, someEmpty, someEmpty-at, someEmpty-by}
-use Rattle.consistency.specs.Largest.{IsLargest, IsLargest-mono, IsLargest-iff, IsLargest-unique, Test, Monotone, AllPass, largest, largest-is}
+use Rattle.consistency.specs.Largest.{IsLargest, IsLargest-mono, IsLargest-iff, IsLargest-unique, Test, Monotone}
+use Rattle.consistency.specs.Largest.{AllPass, largest, largest-is}
 use Rattle.consistency.specs.Runs.{largest-lose, largest-done, largest-between, Run, run-largest}
 use Rattle.consistency.specs.Problem.{Problem, In}
 use Rattle.consistency.specs.Closing.{Closed, closing, closing-is, closing-mono}
@@ -76,7 +77,8 @@ module _ (P : Problem) where
   passesOver-mono : (W : ℕ) → Monotone (passesOver W)
   passesOver-mono W S R h f v e =
       passesOver-by W R f v
-      (noneEmpty-mono W (left W S f v) (left W R f v) (closing-mono P W (cut S f v) (cut R f v) (cut-mono S R f v h)) (passesOver-at W S f v e))
+      (noneEmpty-mono W (left W S f v) (left W R f v) (closing-mono P W (cut S f v) (cut R f v) (cut-mono S R f v h))
+      (passesOver-at W S f v e))
 
   -- ---- the test at reach k (01): over f's neighbourhood. Passed when no neighbourhood field is empty.
 
@@ -156,7 +158,8 @@ module _ (P : Problem) where
       someEmpty-by (P .fields) (offers k S) f l (empty-by (offers k S) f (λ v i. never (h f v i) (empty-at U f v e)))
 
   -- a field with no offer leaves none to the fields whose neighbourhood it is in
-  pub offers-wipe : (k : ℕ) (S : List ℕ) (f v g : ℕ) → In P (neighbourhood P k f) g → empty (offers k S) g ≡ true → has (offers k S) f v ≡ false
+  pub offers-wipe : (k : ℕ) (S : List ℕ) (f v g : ℕ) → In P (neighbourhood P k f) g → empty (offers k S) g ≡ true
+      → has (offers k S) f v ≡ false
   offers-wipe k S f v g i z =
       not-so (has (offers k S) f v) (λ e.
       let w = witness-at (neighbourhood P k f) (offers k S) f v (offers-is k S .good f v e) in

@@ -21,7 +21,8 @@ module _ (P : Problem) where
       let w = witness-at P W S f v (p f v e) in
       let self = neighbourhood-self P k f (i .0) in
       let s = empty-not (left P W S f v) f (w .full f self) in
-      let here : has (left P W S f v) f v ≡ true = ap (λ (y : ℕ). has (left P W S f v) f y) (sym (cut-at S f v (s .0) (w .inside f (s .0) (s .1)))) ∙ s .1 in
+      let here : has (left P W S f v) f v ≡ true = ap (λ (y : ℕ). has (left P W S f v) f y)
+      (sym (cut-at S f v (s .0) (w .inside f (s .0) (s .1)))) ∙ s .1 in
       let c = w .shut f v here self g (neighbourhood-joined P k f g o (i .0) (j .0) q) q in
       (c .0, cut-⊆ S f v g (c .0) (w .inside g (c .0) (c .1)), c .2)
 

@@ -1,6 +1,7 @@
 -- A set with empty fields added has the same closing and the same offers, with those empty fields added. Assumes nothing.
 --
--- The definitions take a set of as many masks as there are fields; code keeps as many as there may be, of which those past the last field are 0.
+-- The definitions take a set of as many masks as there are fields; code keeps as many as there may be, of which those past the last field
+-- are 0.
 use mathlib.Core.Path.{_≡_, sym, ap, _∙_}
 use mathlib.Core.List.{List}
 use Prim.Native.Nat.{ℕ, _+_}

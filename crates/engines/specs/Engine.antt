@@ -14,14 +14,16 @@ use Rattle.consistency.specs.Largest.{IsLargest-self}
 use Rattle.consistency.specs.Problem.{Problem, allFields, in-allFields}
 use Rattle.consistency.specs.Closing.{closing-is}
 use Rattle.consistency.specs.Neighbourhood.{neighbourhood}
-use Rattle.consistency.specs.Offers.{NoneEmpty, noneEmpty-at, passesOver, passesOver-at, EachPasses, offers, offers-is, offers-unique, wipedOut, wipedOut-by}
+use Rattle.consistency.specs.Offers.{NoneEmpty, noneEmpty-at, passesOver, passesOver-at, EachPasses}
+use Rattle.consistency.specs.Offers.{offers, offers-is, offers-unique, wipedOut, wipedOut-by}
 use Rattle.consistency.specs.Order.{offers-in-closing, offers-of-closing}
 use Rattle.closing.specs.Shrunk.{Shrunk, shrunk-none, shrunk-then, or-within}
 use Rattle.closing.specs.Close.{Ready, Closes}
 use Rattle.closing.specs.Frame.{Live, wiped-by, wiped-same}
 use Rattle.visiting.specs.Visit.{Visited}
 
--- What the engines ask of an order: n places, and every field at one. 01's order, `isOrder` of the ledger, is one (`order-low`, `order-every`).
+-- What the engines ask of an order: n places, and every field at one. 01's order, `isOrder` of the ledger, is one (`order-low`,
+-- `order-every`).
 pub record IsOrder (n : ℕ) (order : List ℕ) : Type 0 where
   pub sized : length order ≡ n
   pub low : (q : ℕ) → q < n → getD order q 0 < n
@@ -90,7 +92,8 @@ module _ (P : Problem) where
   pub all-full : (S : List ℕ) → someEmpty (P .fields) S ≡ false → NoneEmpty P (allFields P) S
   all-full S e g i = not-so (empty S g) (λ z. never (someEmpty-by (P .fields) S g (i .0) z) e)
 
-  pub begun-closed : (S : List ℕ) → OnFields S → (wiped : Bool) (touched : ℕ) (R : List ℕ) → Closes P (allFields P) S wiped touched R → Begun S wiped R
+  pub begun-closed : (S : List ℕ) → OnFields S → (wiped : Bool) (touched : ℕ) (R : List ℕ) → Closes P (allFields P) S wiped touched R
+      → Begun S wiped R
   begun-closed S on wiped touched R c = record {
     sized = c .sized;
     inside = λ e. c .shrunk e .inside;
@@ -160,7 +163,9 @@ module _ (P : Problem) where
     pub engine-none : {R : List ℕ} → Wiped hood M → Engine hood S true R
     engine-none {R} w k a = offered-none k S R (wiped-same P k M S (b .steady refl k (a .least)) (w k a))
 
-    pub engine-done : {R : List ℕ} {touched : ℕ} → Kept hood M touched R → ((f : ℕ) → f < P .fields → FieldPasses hood R f) → Engine hood S false R
+    pub engine-done : {R : List ℕ} {touched : ℕ} → Kept hood M touched R → ((f : ℕ) → f < P .fields → FieldPasses hood R f)
+        → Engine hood S false R
     engine-done {R} x p k a =
         offered-done k S R (x .steady k a ∙ b .steady refl k (a .least)) (x .live)
-        (λ f v h. let l = x .live .on f v h in passesOver-at P (neighbourhood P k f) R f v (ap (λ (W : ℕ). passesOver P W R f v) (sym (a .near f l)) ∙ p f l v h))
+        (λ f v h. let l = x .live .on f v h in
+        passesOver-at P (neighbourhood P k f) R f v (ap (λ (W : ℕ). passesOver P W R f v) (sym (a .near f l)) ∙ p f l v h))

@@ -36,7 +36,8 @@ module _ (n : ℕ) (joined forward turned : List ℕ) where
   P = problemOf n joined forward turned
 
   -- closing at the start, from every field
-  pub start-asks : (S : List ℕ) → StartAsks n joined forward turned S → someEmpty n S ≡ false → CloseAsks n joined forward turned (allFields P) (allFields P) S
+  pub start-asks : (S : List ℕ) → StartAsks n joined forward turned S → someEmpty n S ≡ false
+      → CloseAsks n joined forward turned (allFields P) (allFields P) S
   unfolding problemOf
   start-asks S a e = record {
     wired = a .wired;
@@ -54,7 +55,8 @@ module _ (n : ℕ) (joined forward turned : List ℕ) where
     live = b .live refl;
   }
 
-  pub kept-asks : {hood S R : List ℕ} {touched : ℕ} → LiveAsks n joined forward turned S → Kept P hood S touched R → LiveAsks n joined forward turned R
+  pub kept-asks : {hood S R : List ℕ} {touched : ℕ} → LiveAsks n joined forward turned S → Kept P hood S touched R
+      → LiveAsks n joined forward turned R
   kept-asks {S = S} a k = asks-shrunk n joined forward turned S a (k .shrunk) (k .live)
 
   -- what the visit of a field of the order asks

@@ -63,11 +63,13 @@ module _ (n : ℕ) (hood : List ℕ) (queue changed : ℕ) (a : BackAsks n hood 
     adds = λ h g c. p .adds h g c (ap (λ (x : ℕ). bit x h) z ∙ bit-of-zero h);
   }
 
-  pub backing-turn : (left r f : ℕ) → bit left f ≡ true → Backing n hood queue changed left r → Backing n hood queue changed (clear left f) (bitOr r (clear (getD hood f 0) f))
+  pub backing-turn : (left r f : ℕ) → bit left f ≡ true → Backing n hood queue changed left r
+      → Backing n hood queue changed (clear left f) (bitOr r (clear (getD hood f 0) f))
   backing-turn left r f b p = record {
     lefts = λ v e. p .lefts v (clear-within left f v e);
     keeps = λ v e. bit-or r (clear (getD hood f 0) f) v ∙ or-l _ _ (p .keeps v e);
-    small = or-within r (clear (getD hood f 0) f) (allOf n) (p .small) (λ v e. a .hoods f (p .lefts f b) .1 v (clear-within (getD hood f 0) f v e));
+    small = or-within r (clear (getD hood f 0) f) (allOf n) (p .small)
+        (λ v e. a .hoods f (p .lefts f b) .1 v (clear-within (getD hood f 0) f v e));
     none = λ z. absurd (never (p .lefts f b) (ap (λ (x : ℕ). bit x f) z ∙ bit-of-zero f));
     adds = λ h g c e y d. bit-or r (clear (getD hood f 0) f) g ∙ ⊎-elim
         (λ q. let z : h ≡ f = clear-gone left f h q e in
@@ -76,8 +78,10 @@ module _ (n : ℕ) (hood : List ℕ) (queue changed : ℕ) (a : BackAsks n hood 
   }
 
 -- masks of the problem's fields will do
-pub back-asks : (n : ℕ) (joined forward turned order hood : List ℕ) → n ≤ mostFields → Lent n joined forward turned order hood → (queue changed : ℕ)
-    → Within queue (allFields (problemOf n joined forward turned)) → Within changed (allFields (problemOf n joined forward turned)) → BackAsks n hood queue changed
+pub back-asks : (n : ℕ) (joined forward turned order hood : List ℕ) → n ≤ mostFields → Lent n joined forward turned order hood
+    → (queue changed : ℕ)
+    → Within queue (allFields (problemOf n joined forward turned)) → Within changed (allFields (problemOf n joined forward turned))
+    → BackAsks n hood queue changed
 unfolding allFields problemOf
 back-asks n joined forward turned order hood few l queue changed q c = record {
   few = few;
@@ -111,13 +115,15 @@ module _ (P : Problem) (order hood : List ℕ) where
     pub waiting-start : Live P S0 → Within queue0 (allFields P) → Waiting 0 queue0 0 S0
     waiting-start l w = record { kept = kept-start P hood S0 l; small = w; gone = λ z q i. absurd (omega arith); off = λ o. o }
 
-    pub waiting-end : (p queue touched : ℕ) (S : List ℕ) → IsOrder (P .fields) order → P .fields ≤ p → Waiting p queue touched S → Rounded false queue S
+    pub waiting-end : (p queue touched : ℕ) (S : List ℕ) → IsOrder (P .fields) order → P .fields ≤ p → Waiting p queue touched S
+        → Rounded false queue S
     waiting-end p queue touched S o h w =
         record {
           sized = w .kept .shrunk .sized;
           kept = λ _. (touched, w .kept);
           small = λ _. w .small;
-          ends = λ _. ⊎-elim (λ z. inr (shrunk-still (w .kept .shrunk) z, none z)) (λ z. inl (shrunk-fewer (w .kept .shrunk) z)) (eq-cases touched 0);
+          ends = λ _. ⊎-elim (λ z. inr (shrunk-still (w .kept .shrunk) z, none z)) (λ z. inl (shrunk-fewer (w .kept .shrunk) z))
+              (eq-cases touched 0);
           off = λ _. w .off;
           none = λ e. absurd (true≢false (sym e));
         }
@@ -137,7 +143,8 @@ module _ (P : Problem) (order hood : List ℕ) where
       waiting-skip e = record {
         kept = w .kept;
         small = w .small;
-        gone = λ z q i. ⊎-elim (λ j. ap (λ (x : ℕ). bit queue (getD order x 0)) j ∙ e) (λ j. w .gone z q j) (eq-or-lt-of-le (let k : q ≤ p = omega arith in k));
+        gone = λ z q i. ⊎-elim (λ j. ap (λ (x : ℕ). bit queue (getD order x 0)) j ∙ e) (λ j. w .gone z q j)
+            (eq-or-lt-of-le (let k : q ≤ p = omega arith in k));
         off = w .off;
       }
 
@@ -153,7 +160,8 @@ module _ (P : Problem) (order hood : List ℕ) where
           none = λ _. kept-wiped P (w .kept) (visit-wiped P hood f l S wiped changed R v e);
         }
 
-        pub waiting-turn : wiped ≡ false → Hoods P hood → (r : ℕ) → Back (P .fields) hood (clear queue (getD order p 0)) changed r → Waiting (p + 1) r (bitOr touched changed) R
+        pub waiting-turn : wiped ≡ false → Hoods P hood → (r : ℕ) → Back (P .fields) hood (clear queue (getD order p 0)) changed r
+            → Waiting (p + 1) r (bitOr touched changed) R
         unfolding allFields
         waiting-turn e hs r b =
             record {
@@ -175,7 +183,8 @@ module _ (P : Problem) (order hood : List ℕ) where
             was-off g n d = not-so (bit queue g) (λ c. never (b .keeps g (clear-other queue f g d ∙ c)) n)
 
             -- a field i of g's neighbourhood, other than g, did not change where g is off the queue
-            unchanged : (g : ℕ) → g < P .fields → bit r g ≡ false → (i : ℕ) → bit (getD hood g 0) i ≡ true → bit changed i ≡ true → (g ≡ i → ⊥) → ⊥
+            unchanged : (g : ℕ) → g < P .fields → bit r g ≡ false → (i : ℕ) → bit (getD hood g 0) i ≡ true → bit changed i ≡ true
+                → (g ≡ i → ⊥) → ⊥
             unchanged g k n i y c d = never (b .adds i g c (hs .back g i k (allFields-bound P i (v .marks e i c)) y) d) n
 
             own : bit r f ≡ false → FieldPasses P hood R f
@@ -195,7 +204,8 @@ module _ (P : Problem) (order hood : List ℕ) where
     pub off : Off S queue
 
   pub turning-start : (M : List ℕ) → Live P M → Turning M (allFields P) M
-  turning-start M l = record { kept = (0, kept-start P hood M l); small = λ v e. e; off = λ f i n. absurd (never (in-allFields P f i .1) n) }
+  turning-start M l =
+      record { kept = (0, kept-start P hood M l); small = λ v e. e; off = λ f i n. absurd (never (in-allFields P f i .1) n) }
 
   module _ (M S R : List ℕ) (queue next : ℕ) (t : Turning M queue S) (r : Rounded S queue false next R) where
     pub turning-turn : Turning M next R

@@ -79,10 +79,14 @@ offer-asks-D = record {
   room = let n = length-replicate {A = ℕ} (memoryWords - 15) 0 in omega arith;
 }
 
-computed : (wipedOut (sheetProblem numbersOfD) (reachOf numbersOfD) startOfD ≡ false) × (offers (sheetProblem numbersOfD) (reachOf numbersOfD) startOfD ≡ offersOfD)
-unfolding wipedOut offers passes passesOver noneEmpty neighbourhood fieldsWithin widen allFields closing supported supportedBy partner largest sweeps sweep someEmpty empty cut same count only countBits countIn someBit someIn keepBits keepIn maskOf bit someBelow allBelow sheetProblem runs pairs pick fieldStart ruleStart
+computed : (wipedOut (sheetProblem numbersOfD) (reachOf numbersOfD) startOfD ≡ false)
+    × (offers (sheetProblem numbersOfD) (reachOf numbersOfD) startOfD ≡ offersOfD)
+unfolding wipedOut offers passes passesOver noneEmpty neighbourhood fieldsWithin widen allFields closing supported supportedBy
+    partner largest sweeps sweep someEmpty empty cut same count only countBits countIn someBit someIn keepBits keepIn maskOf bit
+    someBelow allBelow sheetProblem runs pairs pick fieldStart ruleStart
 computed = (refl, refl)
 
 -- The only answer there: not wiped out, and the offers (6, 3).
-pub offered-D : (wiped : Bool) (R : List ℕ) → Offered (sheetProblem (take 15 memoryOfD)) (reachOf (take 15 memoryOfD)) startOfD wiped R → (wiped ≡ false) × (R ≡ offersOfD)
+pub offered-D : (wiped : Bool) (R : List ℕ) → Offered (sheetProblem (take 15 memoryOfD)) (reachOf (take 15 memoryOfD)) startOfD wiped R
+    → (wiped ≡ false) × (R ≡ offersOfD)
 offered-D wiped R o = let e = o .wipes ∙ computed .0 in (e, o .made e ∙ computed .1)

@@ -6,11 +6,12 @@ use mathlib.Core.List.{List}
 use Prim.Native.Nat.{ℕ, _+_, _*_, _≤_, _<_}
 use native.Mathlib.Omega.{arith}
 use lib.Dec.{ltb}
-use lib.ListN.{length, getD, take, drop, List·getD-eq-default, length-take}
+use lib.ListN.{length, getD, drop, List·getD-eq-default, length-take}
 use lib.Seq.{getD-take, getD-drop}
 use borrow.Author.Tests.{ltb-true, ltb-false, lt-ltb, le-ltb}
 use Rattle.limits.specs.Limits.{mostFields, mostSettings, tableWords}
-use Rattle.masks.specs.Tests.{never, not-so, bool-cases, iff-eq, and-l, and-r, and-by, or-l, or-r, or-at, someBelow, someBelow-at, someBelow-by}
+use Rattle.masks.specs.Tests.{never, not-so, bool-cases, iff-eq, and-l, and-r, and-by, or-l, or-r, or-at, someBelow, someBelow-at}
+use Rattle.masks.specs.Tests.{someBelow-by}
 use Rattle.masks.specs.Bits.{bit, bit-of-zero}
 use Rattle.masks.specs.Masks.{maskOf, bit-maskOf}
 use Rattle.sheet.specs.Judge.{Accepted}
@@ -18,7 +19,7 @@ use Rattle.accepted.specs.Parts.{fieldsOf, countOf, rulesOf, firstOf, secondOf,
 use Rattle.accepted.specs.Facts.{Facts, facts}
 use Rattle.accepted.specs.Order.{no-pair-twice}
 use Rattle.network.specs.Slots.{slot, slot-bound}
-use Rattle.network.specs.Tables.{rowsOf, problemOf, Wired}
+use Rattle.network.specs.Tables.{slotRows, rowsOf, problemOf, Wired}
 use Rattle.network.specs.SheetProblem.{runs, runs-at, pairs, joins, allowsPair, sheetProblem, sheet-symmetric}
 
 -- row v of rule r in the forward table, and row u in the turned one; 0 past the field's settings
@@ -82,7 +83,8 @@ module _ (xs : List ℕ) (a : Accepted xs) where
 
   -- what the rule from f to g allows is what is allowed
   allowed-by : (f g v u r : ℕ) → r < rulesOf xs → runs xs f g r ≡ true
-      → (someBelow (rulesOf xs) (allowsPair xs f g v u) ≡ pairs xs f g v u r) × (someBelow (rulesOf xs) (allowsPair xs g f u v) ≡ pairs xs f g v u r)
+      → (someBelow (rulesOf xs) (allowsPair xs f g v u) ≡ pairs xs f g v u r)
+      × (someBelow (rulesOf xs) (allowsPair xs g f u v) ≡ pairs xs f g v u r)
   allowed-by f g v u r h e = (
     iff-eq _ _
         (λ y. let x = someBelow-at (rulesOf xs) (allowsPair xs f g v u) y in ⊎-elim
@@ -100,11 +102,12 @@ module _ (xs : List ℕ) (a : Accepted xs) where
 
   module _ (joined forward turned : List ℕ) (t : Holds xs (rulesOf xs) joined forward turned) where
     -- a row as it is read
-    part-at : (table : List ℕ) (s v : ℕ) → s * mostSettings + mostSettings ≤ length table → v < mostSettings → getD (take mostSettings (drop (s * mostSettings) table)) v 0 ≡ getD table (s * mostSettings + v) 0
+    part-at : (table : List ℕ) (s v : ℕ) → s * mostSettings + mostSettings ≤ length table → v < mostSettings
+        → getD (slotRows table s) v 0 ≡ getD table (s * mostSettings + v) 0
     part-at table s v h l = getD-take mostSettings (drop (s * mostSettings) table) v 0 l ∙ getD-drop (s * mostSettings) table v 0
 
-    part-past : (table : List ℕ) (s v : ℕ) → mostSettings ≤ v → getD (take mostSettings (drop (s * mostSettings) table)) v 0 ≡ 0
-    part-past table s v h = List·getD-eq-default (take mostSettings (drop (s * mostSettings) table)) 0 (simp (length-take) (omega arith))
+    part-past : (table : List ℕ) (s v : ℕ) → mostSettings ≤ v → getD (slotRows table s) v 0 ≡ 0
+    part-past table s v h = List·getD-eq-default (slotRows table s) 0 (simp (length-take) (omega arith))
 
     module _ (f g r : ℕ) (h : r < rulesOf xs) (e : runs xs f g r ≡ true) where
       below : f < g
@@ -131,15 +134,21 @@ module _ (xs : List ℕ) (a : Accepted xs) where
       unfolding rowsOf pairs
       same-row v u = rw (lt-ltb f g below) (⊎-elim
           (λ q. let l = ltb-true v mostSettings q in
-          ap (λ (m : ℕ). bit m u) (part-at forward (slot f g) v room l ∙ ap (λ (s : ℕ). getD forward (s * mostSettings + v) 0) (sym slot-is) ∙ t .rows r v h l)
+          let same = ap (λ (s : ℕ). getD forward (s * mostSettings + v) 0) (sym slot-is) in
+          ap (λ (m : ℕ). bit m u) (part-at forward (slot f g) v room l ∙ same ∙ t .rows r v h l)
           ∙ bit-maskOf (countOf xs (secondOf xs r)) (λ u. ltb v (countOf xs (firstOf xs r)) && ruleAllows xs r v u) u
           ∙ rw (counts .0, counts .1) (turn (ltb u (countOf xs g)) (ltb v (countOf xs f)) (ruleAllows xs r v u)))
           (λ q. ap (λ (m : ℕ). bit m u) (part-past forward (slot f g) v (ltb-false v mostSettings q)) ∙ bit-of-zero u
-          ∙ sym (ap (λ (b : Bool). b && (ltb u (countOf xs g) && ruleAllows xs r v u)) (le-ltb v (countOf xs f) (let l = ltb-false v mostSettings q in let m = few .0 in omega arith))))
+          ∙ sym (ap (λ (b : Bool). b && (ltb u (countOf xs g) && ruleAllows xs r v u))
+          (le-ltb v (countOf xs f) (let l = ltb-false v mostSettings q in let m = few .0 in omega arith))))
           (bool-cases (ltb v mostSettings)))
         where
           room : slot f g * mostSettings + mostSettings ≤ length forward
-          room = let s = slot-bound f g below (let n = ends r h in let x = runs-at xs f g r e .1 in let m = n .1 in let k = n .2 in omega arith) in let l = t .forwards in omega arith
+          room =
+              let s = slot-bound f g below
+              (let n = ends r h in let x = runs-at xs f g r e .1 in let m = n .1 in let k = n .2 in omega arith) in
+              let l = t .forwards in
+              omega arith
 
           turn : (a b c : Bool) → (a && (b && c)) ≡ (b && (a && c))
           turn true b c = refl
@@ -151,20 +160,30 @@ module _ (xs : List ℕ) (a : Accepted xs) where
       unfolding rowsOf pairs
       same-column v u = rw (le-ltb g f (let b = below in omega arith)) (⊎-elim
           (λ q. let l = ltb-true u mostSettings q in
-          ap (λ (m : ℕ). bit m v) (part-at turned (slot f g) u room l ∙ ap (λ (s : ℕ). getD turned (s * mostSettings + u) 0) (sym slot-is) ∙ t .columns r u h l)
+          let same = ap (λ (s : ℕ). getD turned (s * mostSettings + u) 0) (sym slot-is) in
+          ap (λ (m : ℕ). bit m v) (part-at turned (slot f g) u room l ∙ same ∙ t .columns r u h l)
           ∙ bit-maskOf (countOf xs (firstOf xs r)) (λ v. ltb u (countOf xs (secondOf xs r)) && ruleAllows xs r v u) v
           ∙ rw (counts .0, counts .1))
           (λ q. ap (λ (m : ℕ). bit m v) (part-past turned (slot f g) u (ltb-false u mostSettings q)) ∙ bit-of-zero v
-          ∙ sym (ap (λ (b : Bool). ltb v (countOf xs f) && (b && ruleAllows xs r v u)) (le-ltb u (countOf xs g) (let l = ltb-false u mostSettings q in let m = few .1 in omega arith)) ∙ and-false (ltb v (countOf xs f))))
+          ∙ sym (ap (λ (b : Bool). ltb v (countOf xs f) && (b && ruleAllows xs r v u))
+          (le-ltb u (countOf xs g) (let l = ltb-false u mostSettings q in let m = few .1 in omega arith))
+          ∙ and-false (ltb v (countOf xs f))))
           (bool-cases (ltb u mostSettings)))
         where
           room : slot f g * mostSettings + mostSettings ≤ length turned
-          room = let s = slot-bound f g below (let n = ends r h in let x = runs-at xs f g r e .1 in let m = n .1 in let k = n .2 in omega arith) in let l = t .turneds in omega arith
+          room =
+              let s = slot-bound f g below
+              (let n = ends r h in let x = runs-at xs f g r e .1 in let m = n .1 in let k = n .2 in omega arith) in
+              let l = t .turneds in
+              omega arith
 
-    same-allowed : (f g v u : ℕ) → (bit (getD joined f 0) g && bit (getD (rowsOf forward turned f g) v 0) u) ≡ someBelow (rulesOf xs) (allowsPair xs f g v u)
-    same-allowed f g v u = ap (λ (b : Bool). b && bit (getD (rowsOf forward turned f g) v 0) u) (t .masks f g) ∙ cases (someBelow (rulesOf xs) (joins xs f g)) refl
+    same-allowed : (f g v u : ℕ)
+        → (bit (getD joined f 0) g && bit (getD (rowsOf forward turned f g) v 0) u) ≡ someBelow (rulesOf xs) (allowsPair xs f g v u)
+    same-allowed f g v u = ap (λ (b : Bool). b && bit (getD (rowsOf forward turned f g) v 0) u) (t .masks f g)
+        ∙ cases (someBelow (rulesOf xs) (joins xs f g)) refl
       where
-        cases : (b : Bool) → someBelow (rulesOf xs) (joins xs f g) ≡ b → (b && bit (getD (rowsOf forward turned f g) v 0) u) ≡ someBelow (rulesOf xs) (allowsPair xs f g v u)
+        cases : (b : Bool) → someBelow (rulesOf xs) (joins xs f g) ≡ b
+            → (b && bit (getD (rowsOf forward turned f g) v 0) u) ≡ someBelow (rulesOf xs) (allowsPair xs f g v u)
         cases true e =
             let x = someBelow-at (rulesOf xs) (joins xs f g) e in ⊎-elim
             (λ q. same-row f g (x .0) (x .1) q v u ∙ sym (allowed-by f g v u (x .0) (x .1) q .0))

@@ -15,7 +15,8 @@ use Rattle.masks.specs.Masks.{maskOf}
 use Rattle.masks.specs.Words.{bit-or}
 use Rattle.consistency.specs.Problem.{Problem, allFields}
 use Rattle.limits.specs.Limits.{mostFields, wholeReach}
-use Rattle.consistency.specs.Neighbourhood.{widen, widen-keeps, widen-adds, widen-at, fieldsWithin, within-bound, within-start, within-next, neighbourhood, neighbourhood-near, neighbourhood-whole}
+use Rattle.consistency.specs.Neighbourhood.{widen, widen-keeps, widen-adds, widen-at, fieldsWithin, within-bound, within-start}
+use Rattle.consistency.specs.Neighbourhood.{within-next, neighbourhood, neighbourhood-near, neighbourhood-whole}
 
 -- A problem with these joined fields.
 pub record Joins (n : ℕ) (joined : List ℕ) (P : Problem) : Type 0 where
@@ -50,7 +51,8 @@ module _ (joined : List ℕ) (m : ℕ) where
     pub widening-out : bit m h ≡ false → Widening joined m (h + 1) wide
     widening-out e = record {
       keeps = p .keeps;
-      adds = λ i g l q j. ⊎-elim (λ z. absurd (never q (ap (bit m) z ∙ e))) (λ z. p .adds i g z q j) (eq-or-lt-of-le (let k : i ≤ h = omega arith in k));
+      adds = λ i g l q j. ⊎-elim (λ z. absurd (never q (ap (bit m) z ∙ e))) (λ z. p .adds i g z q j)
+          (eq-or-lt-of-le (let k : i ≤ h = omega arith in k));
       only = p .only;
     }
 
@@ -60,8 +62,10 @@ module _ (n : ℕ) (joined : List ℕ) (few : n ≤ mostFields) (low : JoinsBelo
   widened : (m wide : ℕ) → ((g : ℕ) → bit m g ≡ true → g < n) → Widening joined m mostFields wide → wide ≡ widen P m
   widened m wide b p = bit-ext _ _ (λ g. iff-eq _ _
       (λ e. ⊎-elim (λ q. widen-keeps P m g (rw (t .fields) (b g q), q))
-      (λ s. widen-adds P m (s .0) g (rw (t .fields) (b (s .0) (s .1)), s .1) (rw (t .fields) (low (s .0) g (s .2) .1)) (t .joins (s .0) g ∙ s .2)) (p .only g e))
-      (λ e. ⊎-elim (p .keeps g) (λ s. p .adds (s .0) g (let l = b (s .0) (s .1) in omega arith) (s .1) (sym (t .joins (s .0) g) ∙ s .2)) (widen-at P m g e)))
+      (λ s. widen-adds P m (s .0) g (rw (t .fields) (b (s .0) (s .1)), s .1) (rw (t .fields) (low (s .0) g (s .2) .1))
+      (t .joins (s .0) g ∙ s .2)) (p .only g e))
+      (λ e. ⊎-elim (p .keeps g) (λ s. p .adds (s .0) g (let l = b (s .0) (s .1) in omega arith) (s .1) (sym (t .joins (s .0) g) ∙ s .2))
+      (widen-at P m g e)))
 
   within-low : (k f g : ℕ) → bit (fieldsWithin P k f) g ≡ true → g < n
   within-low k f g e = rw (t .fields) at (within-bound P k f g e)
@@ -70,7 +74,8 @@ module _ (n : ℕ) (joined : List ℕ) (few : n ≤ mostFields) (low : JoinsBelo
   within-one f x h e = e ∙ sym (within-start P f (rw (t .fields) h))
 
   within-more : (k f m wide : ℕ) → m ≡ fieldsWithin P k f → Widening joined m mostFields wide → wide ≡ fieldsWithin P (k + 1) f
-  within-more k f m wide e p = widened m wide (λ g q. within-low k f g (ap (λ (x : ℕ). bit x g) (sym e) ∙ q)) p ∙ ap (widen P) e ∙ sym (within-next P k f)
+  within-more k f m wide e p =
+      widened m wide (λ g q. within-low k f g (ap (λ (x : ℕ). bit x g) (sym e) ∙ q)) p ∙ ap (widen P) e ∙ sym (within-next P k f)
 
 -- what a function that makes one says, of every problem with these joined fields
 abbrev pub WithinFor : ℕ → List ℕ → ℕ → ℕ → ℕ → Type 0
@@ -83,7 +88,8 @@ module _ (n : ℕ) (joined : List ℕ) (f : ℕ) where
   pub hood-start : (x : ℕ) → n ≤ mostFields → JoinsBelow n joined → f < n → x ≡ 2 ^ f → WithinFor n joined 0 f x
   hood-start x few low h e P t = within-one n joined few low P t f x h e
 
-  pub hood-turn : (k m wide : ℕ) → n ≤ mostFields → JoinsBelow n joined → Widening joined m mostFields wide → WithinFor n joined k f m → WithinFor n joined (k + 1) f wide
+  pub hood-turn : (k m wide : ℕ) → n ≤ mostFields → JoinsBelow n joined → Widening joined m mostFields wide → WithinFor n joined k f m
+      → WithinFor n joined (k + 1) f wide
   hood-turn k m wide few low w a P t = within-more n joined few low P t k f m wide (a P t) w
 
   pub hood-near : (k m : ℕ) → k < wholeReach → WithinFor n joined k f m → HoodFor n joined k f m
@@ -102,7 +108,8 @@ module _ (n : ℕ) (joined : List ℕ) (k : ℕ) where
   pub hoods-start : (hood : List ℕ) → length hood ≡ mostFields → HoodsTo n joined k 0 hood
   hoods-start hood l = record { long = l; each = λ f h. absurd (omega arith) }
 
-  pub hoods-turn : (i : ℕ) (hood : List ℕ) (m : ℕ) → i < mostFields → HoodFor n joined k i m → HoodsTo n joined k i hood → HoodsTo n joined k (i + 1) (set hood i m)
+  pub hoods-turn : (i : ℕ) (hood : List ℕ) (m : ℕ) → i < mostFields → HoodFor n joined k i m → HoodsTo n joined k i hood
+      → HoodsTo n joined k (i + 1) (set hood i m)
   hoods-turn i hood m l a p = record {
     long = length-set hood i m ∙ p .long;
     each = λ f h. ⊎-elim

@@ -37,12 +37,16 @@ module _ (xs : List ℕ) (r place i j atI atJ : ℕ) (g : RuleFields xs r place 
 
   pub field-i : FieldAt xs i atI
   field-i = record {
-    field = record { accepted = g .rule .accepted; within = rw (g .first) (let a = fs .apart r (g .rule .within) in let b = fs .within r (g .rule .within) in omega arith) };
+    field = record {
+      accepted = g .rule .accepted;
+      within = rw (g .first) (let a = fs .apart r (g .rule .within) in let b = fs .within r (g .rule .within) in omega arith);
+    };
     at = g .startI;
   }
 
   pub field-j : FieldAt xs j atJ
-  field-j = record { field = record { accepted = g .rule .accepted; within = rw (g .second) (fs .within r (g .rule .within)) }; at = g .startJ }
+  field-j =
+      record { field = record { accepted = g .rule .accepted; within = rw (g .second) (fs .within r (g .rule .within)) }; at = g .startJ }
 
   -- the counts are small
   pub counts-few : (countOf xs i ≤ mostSettings) × (countOf xs j ≤ mostSettings)
@@ -57,6 +61,7 @@ module _ (xs : List ℕ) (r place i j atI atJ : ℕ) (g : RuleFields xs r place 
   row-is v h = rw (g .second, lt-ltb v (countOf xs (firstOf xs r)) (rw (g .first) at h))
 
   -- what code finds of a pair is what the rule allows
-  pub allows-is : (v u kind c p q : ℕ) (t : Bool) → kind ≡ kindOf xs r → c ≡ numberOf xs r v → p ≡ settingOf xs i v → q ≡ settingOf xs j u → t ≡ allows kind c p q u
+  pub allows-is : (v u kind c p q : ℕ) (t : Bool) → kind ≡ kindOf xs r → c ≡ numberOf xs r v → p ≡ settingOf xs i v → q ≡ settingOf xs j u
+      → t ≡ allows kind c p q u
       → ruleAllows xs r v u ≡ t
   allows-is v u kind c p q t a b d e h = sym (rw (a, b, d, e, g .first, g .second) at h)

@@ -21,7 +21,8 @@ use Rattle.accepted.specs.Parts.{countOf, firstOf, secondOf, kindOf, numberOf, 
 use Rattle.accepted.specs.Facts.{facts}
 use Rattle.network.specs.Slots.{slot}
 use Rattle.network.specs.Tables.{forwardOf, turnedOf}
-use Rattle.network.specs.Stored.{Stored, wordsOf, wordsOf-at, stored-forward, stored-turned, stored-then, stored-before, stored-cong, table-lengths}
+use Rattle.network.specs.Stored.{Stored, wordsOf, wordsOf-at, stored-forward, stored-turned, stored-then, stored-before}
+use Rattle.network.specs.Stored.{stored-cong, table-lengths}
 use Rattle.network.specs.Turned.{Rows, Columns}
 use Rattle.network.specs.Built.{rowOf, columnOf, slotOf}
 use Rattle.network.specs.RuleFields.{RuleFields, counts-few, row-past, row-is}
@@ -34,7 +35,12 @@ pub record RowsTo (xs : List ℕ) (r k : ℕ) (w : List ℕ) : Type 0 where
 
 module _ (xs : List ℕ) (r : ℕ) where
   pub rows-start : RowsTo xs r 0 (replicate mostSettings 0)
-  rows-start = record { sized = length-replicate {A = ℕ} mostSettings 0; done = λ v l. absurd (omega arith); rest = λ v l. getD-zeros mostSettings v }
+  rows-start =
+      record {
+        sized = length-replicate {A = ℕ} mostSettings 0;
+        done = λ v l. absurd (omega arith);
+        rest = λ v l. getD-zeros mostSettings v;
+      }
 
   pub rows-next : (k x : ℕ) (w : List ℕ) → k < mostSettings → x ≡ rowOf xs r k → RowsTo xs r k w → RowsTo xs r (k + 1) (set w k x)
   rows-next k x w b e p = record {
@@ -58,13 +64,15 @@ module _ (xs : List ℕ) (r place i j atI atJ : ℕ) (g : RuleFields xs r place 
       let n : numberOf xs r v ≡ valueOf xs r v = pick-true _ _ _ z in
       let m = facts xs (g .rule .accepted) .mask-lt r v (g .rule .within) k (rw (g .first) at h) .0 in
       e ∙ n ∙ sym (mask-self _ (valueOf xs r v) m)
-      ∙ mask-cong (countOf xs (secondOf xs r)) (bit (valueOf xs r v)) (λ u. ruleAllows xs r v u) (λ u l. sym (pick-true _ _ _ z ∙ ap (λ (x : ℕ). bit x u) n))
+      ∙ mask-cong (countOf xs (secondOf xs r)) (bit (valueOf xs r v)) (λ u. ruleAllows xs r v u)
+      (λ u l. sym (pick-true _ _ _ z ∙ ap (λ (x : ℕ). bit x u) n))
       ∙ rw (g .second) at (row-is xs r place i j atI atJ g v h)
 
   module _ (w : List ℕ) (p : RowsTo xs r (countOf xs i) w) where
     row-at : (v : ℕ) → getD w v 0 ≡ rowOf xs r v
     row-at v = ⊎-elim (λ q. p .done v (ltb-true v (countOf xs i) q))
-        (λ q. let l = ltb-false v (countOf xs i) q in p .rest v l ∙ row-past xs r place i j atI atJ g v l) (bool-cases (ltb v (countOf xs i)))
+        (λ q. let l = ltb-false v (countOf xs i) q in p .rest v l ∙ row-past xs r place i j atI atJ g v l)
+        (bool-cases (ltb v (countOf xs i)))
 
     pub rows-rows : Rows w (countOf xs i) (countOf xs j)
     rows-rows = record {
@@ -76,12 +84,14 @@ module _ (xs : List ℕ) (r place i j atI atJ : ℕ) (g : RuleFields xs r place 
 
     column-at : (T : List ℕ) → Columns w (countOf xs i) T → (u : ℕ) → u < mostSettings → getD T u 0 ≡ columnOf xs r u
     column-at T c u h = c .at u h ∙ rw (g .first) (mask-cong (countOf xs (firstOf xs r)) _ _ (λ v l.
-        ap (λ (x : ℕ). bit x u) (row-at v) ∙ bit-maskOf (countOf xs (secondOf xs r)) (λ u. ltb v (countOf xs (firstOf xs r)) && ruleAllows xs r v u) u
+        ap (λ (x : ℕ). bit x u) (row-at v)
+        ∙ bit-maskOf (countOf xs (secondOf xs r)) (λ u. ltb v (countOf xs (firstOf xs r)) && ruleAllows xs r v u) u
         ∙ rw (lt-ltb v (countOf xs (firstOf xs r)) l)))
 
     -- stored one after the other
     pub rule-stored : (s : ℕ) (T rows rows1 rows2 : List ℕ) → s ≡ slot i j → s < mostRules → Columns w (countOf xs i) T
-        → Stored rows (s * mostSettings) (wordsOf w) mostSettings rows1 → Stored rows1 (tableWords + s * mostSettings) (wordsOf T) mostSettings rows2 → RuleStored xs r rows rows2
+        → Stored rows (s * mostSettings) (wordsOf w) mostSettings rows1
+        → Stored rows1 (tableWords + s * mostSettings) (wordsOf T) mostSettings rows2 → RuleStored xs r rows rows2
     rule-stored s T rows rows1 rows2 e b c p q =
         let z : slotOf xs r ≡ s = sym (rw (g .first, g .second) at e) in
         let x = stored-forward rows rows1 (s * mostSettings) (wordsOf w) (omega arith) p in

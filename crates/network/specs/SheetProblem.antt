@@ -29,8 +29,8 @@ joins xs f g r = runs xs f g r || runs xs g f r
 abbrev pub allowsPair : List ℕ → ℕ → ℕ → ℕ → ℕ → ℕ → Bool
 allowsPair xs f g v u r = runs xs f g r && pairs xs f g v u r || runs xs g f r && pairs xs g f u v r
 
--- The problem of a sheet: two fields are joined where a rule joins them; a pair is allowed where the rule that joins its fields allows it. No
--- pair of fields has two rules.
+-- The problem of a sheet: two fields are joined where a rule joins them; a pair is allowed where the rule that joins its fields allows it.
+-- No pair of fields has two rules.
 unfoldable pub sheetProblem : List ℕ → Problem
 sheetProblem xs = record {
   fields = fieldsOf xs;
@@ -48,5 +48,6 @@ pub sheet-symmetric : (xs : List ℕ) → Symmetric (sheetProblem xs)
 unfolding sheetProblem
 sheet-symmetric xs = record {
   joins = λ f g. ap (someBelow (rulesOf xs)) (fun-ext (λ r. or-comm (runs xs f g r) (runs xs g f r)));
-  allows = λ f g v u. ap (someBelow (rulesOf xs)) (fun-ext (λ r. or-comm (runs xs f g r && pairs xs f g v u r) (runs xs g f r && pairs xs g f u v r)));
+  allows = λ f g v u. ap (someBelow (rulesOf xs))
+      (fun-ext (λ r. or-comm (runs xs f g r && pairs xs f g v u r) (runs xs g f r && pairs xs g f u v r)));
 }

@@ -42,7 +42,10 @@ slot-unique i j a b h k e =
     apart i j a b h l = let m = triangle-mono (suc j) b l in let n = slot-next i j h in omega arith
 
     same : j ≡ b
-    same = let p : ¬ (j < b) = λ l. let x = apart i j a b h l in omega arith in let q : ¬ (b < j) = λ l. let x = apart a b i j k l in omega arith in omega arith
+    same =
+        let p : ¬ (j < b) = λ l. let x = apart i j a b h l in omega arith in
+        let q : ¬ (b < j) = λ l. let x = apart a b i j k l in omega arith in
+        omega arith
 
 -- as code computes it: the product is small, and half of it is the triangle
 pub slot-code : (i j : ℕ) → i < j → j < mostFields → (j * (j - 1) ≤ 2 * mostRules) × (j * (j - 1) / 2 + i ≡ slot i j)

@@ -31,18 +31,21 @@ module _ (T0 : List ℕ) (base : ℕ) (w : ℕ → ℕ) where
   pub stored-start : Stored T0 base w 0 T0
   stored-start = record { sized = refl; here = λ h l. absurd (omega arith); there = λ j e. refl }
 
-  pub stored-turn : (i : ℕ) (T : List ℕ) (x : ℕ) → i < mostSettings → base + i < length T → x ≡ w i → Stored T0 base w i T → Stored T0 base w (i + 1) (set T (base + i) x)
+  pub stored-turn : (i : ℕ) (T : List ℕ) (x : ℕ) → i < mostSettings → base + i < length T → x ≡ w i → Stored T0 base w i T
+      → Stored T0 base w (i + 1) (set T (base + i) x)
   stored-turn i T x b l e p = record {
     sized = length-set T (base + i) x ∙ p .sized;
     here = λ h k. ⊎-elim
         (λ q. ap (λ (y : ℕ). getD (set T (base + i) x) (base + y) 0) q ∙ getD-set-same T (base + i) x 0 l ∙ e ∙ ap w (sym q))
-        (λ q. getD-set-other T (base + i) (base + h) x 0 (λ z. omega arith) ∙ p .here h q) (eq-or-lt-of-le (let j : h ≤ i = omega arith in j));
+        (λ q. getD-set-other T (base + i) (base + h) x 0 (λ z. omega arith) ∙ p .here h q)
+        (eq-or-lt-of-le (let j : h ≤ i = omega arith in j));
     there = λ j o. getD-set-other T (base + i) j x 0 (λ z. ⊎-elim (λ q. omega arith) (λ q. omega arith) o) ∙ p .there j o;
   }
 
 -- ---- in a list that holds both tables
 
-pub table-lengths : (R R0 : List ℕ) → length R ≡ length R0 → (length (forwardOf R) ≡ length (forwardOf R0)) × (length (turnedOf R) ≡ length (turnedOf R0))
+pub table-lengths : (R R0 : List ℕ) → length R ≡ length R0
+    → (length (forwardOf R) ≡ length (forwardOf R0)) × (length (turnedOf R) ≡ length (turnedOf R0))
 unfolding forwardOf turnedOf
 table-lengths R R0 e = (simp length-take (rw e), simp length-drop (rw e))
 
@@ -64,7 +67,8 @@ module _ (R0 R : List ℕ) (base : ℕ) (w : ℕ → ℕ) where
       (λ q. let l = ltb-false j tableWords q in past R j l ∙ sym (past R0 j l)) (bool-cases (ltb j tableWords))
 
   -- what is stored in the forward table, and leaves the turned one
-  pub stored-forward : base + mostSettings ≤ tableWords → Stored R0 base w mostSettings R → Stored (forwardOf R0) base w mostSettings (forwardOf R) × ((j : ℕ) → getD (turnedOf R) j 0 ≡ getD (turnedOf R0) j 0)
+  pub stored-forward : base + mostSettings ≤ tableWords → Stored R0 base w mostSettings R
+      → Stored (forwardOf R0) base w mostSettings (forwardOf R) × ((j : ℕ) → getD (turnedOf R) j 0 ≡ getD (turnedOf R0) j 0)
   stored-forward b p = (
     record {
       sized = table-lengths R R0 (p .sized) .0;
@@ -75,23 +79,29 @@ module _ (R0 R : List ℕ) (base : ℕ) (w : ℕ → ℕ) where
   )
 
   -- and the other way round
-  pub stored-turned : Stored R0 (tableWords + base) w mostSettings R → Stored (turnedOf R0) base w mostSettings (turnedOf R) × ((j : ℕ) → getD (forwardOf R) j 0 ≡ getD (forwardOf R0) j 0)
+  pub stored-turned : Stored R0 (tableWords + base) w mostSettings R
+      → Stored (turnedOf R0) base w mostSettings (turnedOf R) × ((j : ℕ) → getD (forwardOf R) j 0 ≡ getD (forwardOf R0) j 0)
   stored-turned p = (
     record {
       sized = table-lengths R R0 (p .sized) .1;
-      here = λ h l. back R (base + h) ∙ ap (λ (x : ℕ). getD R x 0) (let e : tableWords + (base + h) ≡ tableWords + base + h = omega arith in e) ∙ p .here h l;
+      here = λ h l. back R (base + h)
+          ∙ ap (λ (x : ℕ). getD R x 0) (let e : tableWords + (base + h) ≡ tableWords + base + h = omega arith in e) ∙ p .here h l;
       there = λ j o. back R j ∙ p .there (tableWords + j) (⊎-elim (λ q. inl (omega arith)) (λ q. inr (omega arith)) o) ∙ sym (back R0 j);
     },
     λ j. same j (λ l. p .there j (inl (omega arith))),
   )
 
 -- Where the rest of the words is given the other way round, what was stored stays stored.
-pub stored-then : (T0 T T' : List ℕ) (base : ℕ) (w : ℕ → ℕ) → Stored T0 base w mostSettings T → length T' ≡ length T → ((j : ℕ) → getD T' j 0 ≡ getD T j 0) → Stored T0 base w mostSettings T'
-stored-then T0 T T' base w p l e = record { sized = l ∙ p .sized; here = λ h k. e (base + h) ∙ p .here h k; there = λ j o. e j ∙ p .there j o }
+pub stored-then : (T0 T T' : List ℕ) (base : ℕ) (w : ℕ → ℕ) → Stored T0 base w mostSettings T → length T' ≡ length T
+    → ((j : ℕ) → getD T' j 0 ≡ getD T j 0) → Stored T0 base w mostSettings T'
+stored-then T0 T T' base w p l e =
+    record { sized = l ∙ p .sized; here = λ h k. e (base + h) ∙ p .here h k; there = λ j o. e j ∙ p .there j o }
 
-pub stored-before : (T0 T T' : List ℕ) (base : ℕ) (w : ℕ → ℕ) → Stored T base w mostSettings T' → length T ≡ length T0 → ((j : ℕ) → getD T j 0 ≡ getD T0 j 0) → Stored T0 base w mostSettings T'
+pub stored-before : (T0 T T' : List ℕ) (base : ℕ) (w : ℕ → ℕ) → Stored T base w mostSettings T' → length T ≡ length T0
+    → ((j : ℕ) → getD T j 0 ≡ getD T0 j 0) → Stored T0 base w mostSettings T'
 stored-before T0 T T' base w p l e = record { sized = p .sized ∙ l; here = p .here; there = λ j o. p .there j o ∙ e j }
 
 -- words that are the same
-pub stored-cong : {T0 T : List ℕ} {base : ℕ} {w w' : ℕ → ℕ} → ((h : ℕ) → h < mostSettings → w h ≡ w' h) → Stored T0 base w mostSettings T → Stored T0 base w' mostSettings T
+pub stored-cong : {T0 T : List ℕ} {base : ℕ} {w w' : ℕ → ℕ} → ((h : ℕ) → h < mostSettings → w h ≡ w' h) → Stored T0 base w mostSettings T
+    → Stored T0 base w' mostSettings T
 stored-cong e p = record { sized = p .sized; here = λ h l. p .here h l ∙ e h l; there = p .there }

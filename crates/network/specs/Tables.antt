@@ -29,26 +29,36 @@ pub turned-part : (rows : List ℕ) → take (length rows - tableWords) (drop ta
 unfolding turnedOf
 turned-part rows = take-all (length rows - tableWords) (drop tableWords rows) (simp length-drop (omega arith))
 
+-- the rows of a slot of a table
+abbrev pub slotRows : List ℕ → ℕ → List ℕ
+slotRows table s = take mostSettings (drop (s * mostSettings) table)
+
 -- The rows of the settings of g towards f: row v has the positions of f that g's position v is allowed beside. They are in the forward
 -- table where g is the lower field, and else in the turned one.
 unfoldable pub rowsOf : List ℕ → List ℕ → ℕ → ℕ → List ℕ
-rowsOf forward turned g f = cond (ltb g f) (take mostSettings (drop (slot g f * mostSettings) forward)) (take mostSettings (drop (slot f g * mostSettings) turned))
+rowsOf forward turned g f = cond (ltb g f) (slotRows forward (slot g f)) (slotRows turned (slot f g))
 
 -- as code takes them, s being the slot
-pub rowsOf-lower : (forward turned : List ℕ) (g f s : ℕ) → g < f → s ≡ slot g f → take (s * mostSettings + mostSettings - s * mostSettings) (drop (s * mostSettings) forward) ≡ rowsOf forward turned g f
+pub rowsOf-lower : (forward turned : List ℕ) (g f s : ℕ) → g < f → s ≡ slot g f
+    → take (s * mostSettings + mostSettings - s * mostSettings) (drop (s * mostSettings) forward) ≡ rowsOf forward turned g f
 unfolding rowsOf
-rowsOf-lower forward turned g f s h e = let k : s * mostSettings + mostSettings - s * mostSettings ≡ mostSettings = omega arith in rw (k, e, lt-ltb g f h)
+rowsOf-lower forward turned g f s h e =
+    let k : s * mostSettings + mostSettings - s * mostSettings ≡ mostSettings = omega arith in
+    rw (k, e, lt-ltb g f h)
 
-pub rowsOf-higher : (forward turned : List ℕ) (g f s : ℕ) → f ≤ g → s ≡ slot f g → take (s * mostSettings + mostSettings - s * mostSettings) (drop (s * mostSettings) turned) ≡ rowsOf forward turned g f
+pub rowsOf-higher : (forward turned : List ℕ) (g f s : ℕ) → f ≤ g → s ≡ slot f g
+    → take (s * mostSettings + mostSettings - s * mostSettings) (drop (s * mostSettings) turned) ≡ rowsOf forward turned g f
 unfolding rowsOf
-rowsOf-higher forward turned g f s h e = let k : s * mostSettings + mostSettings - s * mostSettings ≡ mostSettings = omega arith in rw (k, e, le-ltb g f h)
+rowsOf-higher forward turned g f s h e =
+    let k : s * mostSettings + mostSettings - s * mostSettings ≡ mostSettings = omega arith in
+    rw (k, e, le-ltb g f h)
 
-pub rowsOf-length : (forward turned : List ℕ) (g f : ℕ) → g < mostFields → f < mostFields → (g ≡ f → ⊥) → tableWords ≤ length forward → tableWords ≤ length turned
-    → length (rowsOf forward turned g f) ≡ mostSettings
+pub rowsOf-length : (forward turned : List ℕ) (g f : ℕ) → g < mostFields → f < mostFields → (g ≡ f → ⊥)
+    → tableWords ≤ length forward → tableWords ≤ length turned → length (rowsOf forward turned g f) ≡ mostSettings
 unfolding rowsOf
 rowsOf-length forward turned g f a b d h k = go (ltb g f) refl
   where
-    go : (t : Bool) → ltb g f ≡ t → length (cond t (take mostSettings (drop (slot g f * mostSettings) forward)) (take mostSettings (drop (slot f g * mostSettings) turned))) ≡ mostSettings
+    go : (t : Bool) → ltb g f ≡ t → length (cond t (slotRows forward (slot g f)) (slotRows turned (slot f g))) ≡ mostSettings
     go true e = let s = slot-bound g f (ltb-true g f e) b in simp (length-take, length-drop) (omega arith)
     go false e = let s = slot-bound f g (let l = ltb-false g f e in omega arith) a in simp (length-take, length-drop) (omega arith)
 

@@ -38,7 +38,9 @@ module _ (row v : ℕ) (T0 : List ℕ) where
   turning-next u T b l p = record {
     sized = length-set T u _ ∙ p .sized;
     done = λ h k. ⊎-elim
-        (λ (q : h ≡ u). rw q (getD-set-same T u _ 0 l ∙ ap (bitOr (getD T u 0)) (flood-one row u v b) ∙ ap (λ (x : ℕ). withWhere x (bit row u) v) (p .rest u (omega arith))))
+        (λ (q : h ≡ u). rw q
+        (getD-set-same T u _ 0 l ∙ ap (bitOr (getD T u 0)) (flood-one row u v b)
+        ∙ ap (λ (x : ℕ). withWhere x (bit row u) v) (p .rest u (omega arith))))
         (λ q. getD-set-other T u h _ 0 (λ z. omega arith) ∙ p .done h q) (eq-or-lt-of-le (let j : h ≤ u = omega arith in j));
     rest = λ h k. getD-set-other T u h _ 0 (λ z. omega arith) ∙ p .rest h (omega arith);
   }
@@ -69,7 +71,8 @@ module _ (rows : List ℕ) where
     past = λ u l. getD-zeros mostSettings u;
   }
 
-  pub square-next : (side k row : ℕ) (T T' : List ℕ) → row ≡ getD rows k 0 → Square rows side k T → Turning row k T side T' → Square rows side (k + 1) T'
+  pub square-next : (side k row : ℕ) (T T' : List ℕ) → row ≡ getD rows k 0 → Square rows side k T → Turning row k T side T'
+      → Square rows side (k + 1) T'
   square-next side k row T T' e p t = record {
     sized = t .sized ∙ p .sized;
     at = λ u l. t .done u l ∙ rw (p .at u l, e) (mask-digit (λ v. bit (getD rows v 0) u) k);

@@ -78,7 +78,8 @@ fn rows_of_rule(
 
 // Fills the rows of rule r, whose fields are i and j, in both tables.
 fn fill_rule(numbers: &[u32], r: usize, place: usize, i: usize, j: usize, rows: &mut [u32])
-    requires { ⌜ RuleAt (now numbers) r place × (i ≡ firstOf (now numbers) r) × (j ≡ secondOf (now numbers) r) × (rowsWords ≤ length (now rows)) ⌝ }
+    requires { ⌜ RuleAt (now numbers) r place × (i ≡ firstOf (now numbers) r) × (j ≡ secondOf (now numbers) r)
+        × (rowsWords ≤ length (now rows)) ⌝ }
     ensures { λ _. ⌜ RuleStored (now (numbers .entry)) r (now (rows .entry)) (now (rows .exit)) ⌝ }
 {
     let at_i = parts::field_start(numbers, i);
@@ -95,7 +96,8 @@ fn fill_rule(numbers: &[u32], r: usize, place: usize, i: usize, j: usize, rows: 
 // Fills both tables with the rules of a sheet; for each field the mask of the fields that a rule joins to it.
 pub fn fill(numbers: &[u32], rows: &mut [u32]) -> [u32; FIELDS]
     requires { ⌜ Accepted (now numbers) × (rowsWords ≤ length (now rows)) ⌝ }
-    ensures { λ joined. ⌜ Holds (now (numbers .entry)) (rulesOf (now (numbers .entry))) joined (forwardOf (now (rows .exit))) (turnedOf (now (rows .exit))) ⌝ }
+    ensures { λ joined. ⌜ Holds (now (numbers .entry)) (rulesOf (now (numbers .entry))) joined
+        (forwardOf (now (rows .exit))) (turnedOf (now (rows .exit))) ⌝ }
 {
     let mut joined = [0u32; FIELDS];
     let n = parts::rules(numbers);

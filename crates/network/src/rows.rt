@@ -35,7 +35,8 @@ pub fn turned<'a>(rows: &'a [u32]) -> &'a [u32]
 
 // The rows of the settings of g towards f: part of the forward table where g is the lower field, else of the turned one.
 pub fn row<'a>(forward: &'a [u32], turned: &'a [u32], g: usize, f: usize) -> &'a [u32]
-    requires { ⌜ (g < mostFields) × (f < mostFields) × (g ≡ f → ⊥) × (tableWords ≤ length (now forward)) × (tableWords ≤ length (now turned)) ⌝ }
+    requires { ⌜ (g < mostFields) × (f < mostFields) × (g ≡ f → ⊥)
+        × (tableWords ≤ length (now forward)) × (tableWords ≤ length (now turned)) ⌝ }
     ensures { λ r. ⌜ now r ≡ rowsOf (now (forward .entry)) (now (turned .entry)) g f ⌝ }
 {
     if g < f {

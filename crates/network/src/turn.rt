@@ -36,8 +36,8 @@ fn turn_square(rows: &[u32; SETTINGS], side: usize) -> [u32; SETTINGS]
     turned
 }
 
-// The turned rows of the first n rows, of positions below `wide`: position v is in row u where position u is in row v. Small fields fit in a
-// square of 8.
+// The turned rows of the first n rows, of positions below `wide`: position v is in row u where position u is in row v. Small fields fit
+// in a square of 8.
 pub fn turn(rows: &[u32; SETTINGS], n: usize, wide: usize) -> [u32; SETTINGS]
     requires { ⌜ Rows (now rows) n wide ⌝ }
     ensures { λ r. ⌜ Columns (now (rows .entry)) n r ⌝ }

@@ -1,5 +1,5 @@
--- What engine 2 remembers: for a setting that passed its test, the masks that the test left. They show that it passes for as long as the set
--- holds all of them. Assumes nothing.
+-- What engine 2 remembers: for a setting that passed its test, the masks that the test left. They show that it passes for as long as
+-- the set holds all of them. Assumes nothing.
 use mathlib.Core.Path.{_≡_, refl, sym, ap, _∙_}
 use mathlib.Core.Logic.{_⊎_, inl, inr, ⊎-elim}
 use mathlib.Core.Bool.{Bool, true, not}
@@ -27,9 +27,13 @@ use Rattle.network.specs.Stored.{Stored, wordsOf, wordsOf-at}
 use Rattle.closing.specs.Shrunk.{zero-or}
 use Rattle.closing.specs.Asks.{Masks}
 
+-- position u of field g as one number, of all settings of all fields
+abbrev numberOf : ℕ → ℕ → ℕ
+numberOf g u = g * mostSettings + u
+
 -- where the masks of position u of field g are: the memory has a mask for each field, for each setting of each field
 abbrev pub placeOf : ℕ → ℕ → ℕ
-placeOf g u = (g * mostSettings + u) * mostFields
+placeOf g u = numberOf g u * mostFields
 
 -- the masks at a place
 unfoldable pub recall : List ℕ → ℕ → List ℕ
@@ -55,7 +59,8 @@ module _ (M : List ℕ) (base : ℕ) (S : List ℕ) where
   unfolding lackBelow
   lack-none = refl
 
-  pub lack-next : (i : ℕ) → lackBelow (i + 1) M base S ≡ bitOr (lackBelow i M base S) (bitAnd (getD M (base + i) 0) (2 ^ 32 - 1 - getD S i 0))
+  pub lack-next : (i : ℕ)
+      → lackBelow (i + 1) M base S ≡ bitOr (lackBelow i M base S) (bitAnd (getD M (base + i) 0) (2 ^ 32 - 1 - getD S i 0))
   unfolding lackBelow
   lack-next i = rw add-one
 
@@ -75,8 +80,11 @@ module _ (M : List ℕ) (base : ℕ) (S : List ℕ) where
     pub lack-inside : base + mostFields ≤ length M → lackBelow mostFields M base S ≡ 0 → recall M base ⊆ S
     unfolding has
     lack-inside k z h v e = ⊎-elim
-        (λ q. let l = ltb-true h mostFields q in lack-within mostFields (omega arith) z h l v (sym (ap (λ (x : ℕ). bit x v) (recall-at M base h l)) ∙ e))
-        (λ q. absurd (never e (ap (λ (x : ℕ). bit x v) (List·getD-eq-default (recall M base) 0 (let l = ltb-false h mostFields q in let n = recall-length M base k in omega arith)) ∙ bit-of-zero v)))
+        (λ q. let l = ltb-true h mostFields q in
+        lack-within mostFields (omega arith) z h l v (sym (ap (λ (x : ℕ). bit x v) (recall-at M base h l)) ∙ e))
+        (λ q. let past = List·getD-eq-default (recall M base) 0
+        (let l = ltb-false h mostFields q in let n = recall-length M base k in omega arith) in
+        absurd (never e (ap (λ (x : ℕ). bit x v) past ∙ bit-of-zero v)))
         (bool-cases (ltb h mostFields))
 
 -- ---- masks stored at a place
@@ -86,13 +94,15 @@ module _ (M0 : List ℕ) (base : ℕ) (t : List ℕ) where
     pub recall-same : base + mostFields ≤ length M0 → length t ≡ mostFields → recall M base ≡ t
     recall-same k l =
         let n = recall-length M base (let z = s .sized in omega arith) in
-        ext-getD 0 (recall M base) t (n ∙ sym l) (λ h i. let j : h < mostFields = rw n at i in recall-at M base h j ∙ s .here h j ∙ wordsOf-at t h)
+        ext-getD 0 (recall M base) t (n ∙ sym l)
+        (λ h i. let j : h < mostFields = rw n at i in recall-at M base h j ∙ s .here h j ∙ wordsOf-at t h)
 
     pub recall-other : (a : ℕ) → a + mostFields ≤ length M0 → ((a + mostFields ≤ base) ⊎ (base + mostFields ≤ a)) → recall M a ≡ recall M0 a
     recall-other a k d =
         let n = recall-length M a (let z = s .sized in omega arith) in
         ext-getD 0 (recall M a) (recall M0 a) (n ∙ sym (recall-length M0 a k))
-        (λ h i. let j : h < mostFields = rw n at i in recall-at M a h j ∙ s .there (a + h) (⊎-elim (λ q. inl (omega arith)) (λ q. inr (omega arith)) d) ∙ sym (recall-at M0 a h j))
+        (λ h i. let j : h < mostFields = rw n at i in
+        recall-at M a h j ∙ s .there (a + h) (⊎-elim (λ q. inl (omega arith)) (λ q. inr (omega arith)) d) ∙ sym (recall-at M0 a h j))
 
 -- ---- what the memory shows
 
@@ -142,17 +152,21 @@ module _ (P : Problem) where
     memory-bound = let l = st .long in omega arith
 
     -- one setting more is known
-    pub store-add : (t : List ℕ) → length t ≡ mostFields → Shows (getD hood f 0) f v t → (M' : List ℕ) → Stored M (placeOf f v) (wordsOf t) mostFields M'
+    pub store-add : (t : List ℕ) → length t ≡ mostFields → Shows (getD hood f 0) f v t → (M' : List ℕ)
+        → Stored M (placeOf f v) (wordsOf t) mostFields M'
         → Store hood (set known f (bitOr (getD known f 0) (2 ^ v))) M'
     unfolding has
     store-add t lt sh M' s = record {
       long = let l = st .long in let z = s .sized in omega arith;
       masks = record {
         long = length-set known f _ ∙ st .masks .long;
-        small = λ g. ⊎-elim (λ (q : g ≡ f). rw (q, getD-set-same known f (bitOr (getD known f 0) (2 ^ v)) 0 fl) (or-lt mostSettings (getD known f 0) (2 ^ v) (st .masks .small f) (pow-lt lv)))
+        small = λ g. ⊎-elim
+            (λ (q : g ≡ f). rw (q, getD-set-same known f (bitOr (getD known f 0) (2 ^ v)) 0 fl)
+            (or-lt mostSettings (getD known f 0) (2 ^ v) (st .masks .small f) (pow-lt lv)))
             (λ q. rw (getD-set-other known f g (bitOr (getD known f 0) (2 ^ v)) 0 q) (st .masks .small g)) (eq-cases g f);
       };
-      shows = λ g u e. ⊎-elim (λ (q : g ≡ f). ⊎-elim (λ (r : u ≡ v). rw (q, r) here) (λ r. other g u (old g u e (λ _ y. r y)) (λ _ y. r y)) (eq-cases u v))
+      shows = λ g u e. ⊎-elim
+          (λ (q : g ≡ f). ⊎-elim (λ (r : u ≡ v). rw (q, r) here) (λ r. other g u (old g u e (λ _ y. r y)) (λ _ y. r y)) (eq-cases u v))
           (λ q. other g u (old g u e (λ x _. q x)) (λ x _. q x)) (eq-cases g f);
     }
       where
@@ -166,7 +180,8 @@ module _ (P : Problem) where
         old : (g u : ℕ) → has (set known f (bitOr (getD known f 0) (2 ^ v))) g u ≡ true → (g ≡ f → u ≡ v → ⊥) → has known g u ≡ true
         old g u e d = ⊎-elim
             (λ q. ⊎-elim (λ r. rw q r) (λ r. absurd (d q (eqb-true u v (sym (bit-one v u) ∙ r))))
-            (or-at (bit (getD known f 0) u) _ (sym (bit-or (getD known f 0) (2 ^ v) u) ∙ sym (ap (λ (x : ℕ). bit x u) (getD-set-same known f _ 0 fl)) ∙ (rw q at e))))
+            (or-at (bit (getD known f 0) u) _ (sym (bit-or (getD known f 0) (2 ^ v) u)
+            ∙ sym (ap (λ (x : ℕ). bit x u) (getD-set-same known f _ 0 fl)) ∙ (rw q at e))))
             (λ q. sym (ap (λ (x : ℕ). bit x u) (getD-set-other known f g _ 0 q)) ∙ e) (eq-cases g f)
 
         other : (g u : ℕ) → has known g u ≡ true → (g ≡ f → u ≡ v → ⊥) → Shows (getD hood g 0) g u (recall M' (placeOf g u))
@@ -175,16 +190,22 @@ module _ (P : Problem) where
             let lg = field g u e in
             rw (recall-other M (placeOf f v) t M' s (placeOf g u) (let l = st .long in omega arith) (apart g u lu d)) (st .shows g u e)
           where
-            apart : (g u : ℕ) → u < mostSettings → (g ≡ f → u ≡ v → ⊥) → (placeOf g u + mostFields ≤ placeOf f v) ⊎ (placeOf f v + mostFields ≤ placeOf g u)
-            apart g u lu d = ⊎-elim (λ q. inl (let l = ltb-true (g * mostSettings + u) (f * mostSettings + v) q in omega arith))
-                (λ q. let l = ltb-false (g * mostSettings + u) (f * mostSettings + v) q in ⊎-elim (λ r. inr (let k = ltb-true (f * mostSettings + v) (g * mostSettings + u) r in omega arith))
-                (λ r. let k = ltb-false (f * mostSettings + v) (g * mostSettings + u) r in absurd (d (omega arith) (omega arith))) (bool-cases (ltb (f * mostSettings + v) (g * mostSettings + u))))
-                (bool-cases (ltb (g * mostSettings + u) (f * mostSettings + v)))
+            apart : (g u : ℕ) → u < mostSettings → (g ≡ f → u ≡ v → ⊥)
+                → (placeOf g u + mostFields ≤ placeOf f v) ⊎ (placeOf f v + mostFields ≤ placeOf g u)
+            apart g u lu d = ⊎-elim
+                (λ q. inl (let l = ltb-true (numberOf g u) (numberOf f v) q in omega arith))
+                (λ q. let l = ltb-false (numberOf g u) (numberOf f v) q in ⊎-elim
+                (λ r. inr (let k = ltb-true (numberOf f v) (numberOf g u) r in omega arith))
+                (λ r. let k = ltb-false (numberOf f v) (numberOf g u) r in absurd (d (omega arith) (omega arith)))
+                (bool-cases (ltb (numberOf f v) (numberOf g u))))
+                (bool-cases (ltb (numberOf g u) (numberOf f v)))
 
             -- a known setting is of one of the fields
             field : (g u : ℕ) → bit (getD known g 0) u ≡ true → g < mostFields
             field g u e = ⊎-elim (λ q. ltb-true g mostFields q)
-                (λ q. absurd (never e (ap (λ (x : ℕ). bit x u) (List·getD-eq-default known 0 (let l = ltb-false g mostFields q in let n = st .masks .long in omega arith)) ∙ bit-of-zero u)))
+                (λ q. let past = List·getD-eq-default known 0
+                (let l = ltb-false g mostFields q in let n = st .masks .long in omega arith) in
+                absurd (never e (ap (λ (x : ℕ). bit x u) past ∙ bit-of-zero u)))
                 (bool-cases (ltb g mostFields))
 
   -- ---- the test with the memory

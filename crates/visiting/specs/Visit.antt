@@ -120,5 +120,6 @@ module _ (P : Problem) (W f : ℕ) where
             was-off u h n = not-so (bit left u) (λ y. never (bit-and (clear left v) (getD R f 0) u ∙ and-by _ _ (stays y) h) n)
               where
                 stays : bit left u ≡ true → bit (clear left v) u ≡ true
-                stays y = ⊎-elim (λ q. q) (λ q. absurd (removed-gone P W S f v d false changed R r refl (rw (clear-gone left v u y q) at h)))
+                stays y = ⊎-elim (λ q. q)
+                    (λ q. absurd (removed-gone P W S f v d false changed R r refl (rw (clear-gone left v u y q) at h)))
                     (bool-cases (bit (clear left v) u))

@@ -2,7 +2,7 @@
 use mathlib.Core.Path.{sym}
 use lib.Seq.{length-take-le}
 use borrow.Author.Needs.{needs}
-use Rattle.engines.specs.Answers.{run-asks, run-answers}
+use Rattle.engines.specs.Answers.{run-asks, answers}
 use Rattle.engines_c.proofs.engines_offers.Statement.{statement}
 use Rattle.engines_c.proofs.engines_offers.Tie as tie
 
@@ -40,7 +40,7 @@ returns c =
     let turned = c .before .before .before .before .before in
     let built = turned .before .before .before .before .before in
     let answer = rw (turned .before .forward .ensures, turned .turned .ensures) at (c .before .before .run .ensures) in
-    run-answers _ (built .before .before .before .before .before .before .pre .accepted) _ _ _ (built .build .ensures) _ _ _ answer
+    answers _ (built .before .before .before .before .before .before .pre .accepted) _ _ _ (built .build .ensures) _ _ _ answer
 
 pub engines-offers-spec : {M : Type 1} → statement M
 engines-offers-spec =

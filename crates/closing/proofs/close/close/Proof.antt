@@ -33,24 +33,58 @@ mul-near : tie.Need-mul-near Inv-loop μ-loop
 mul-near c = search needs
 
 element-copy-out-near : tie.Need-element-copy-out-near Inv-loop μ-loop
-element-copy-out-near c = spread-asks _ _ _ _ _ _ _ (c .before .before .before .before .before .before .before .pre) _ _ _ _ (c .before .before .before .before .loop .inv .0) (c .before .before .swept .ensures .1 _ (c .before .lowest-bit .ensures .0 .set)) .1
+element-copy-out-near c =
+    let loop = c .before .before .before .before in
+    let s = loop .before .before .before in
+    spread-asks _ _ _ _ _ _ _ (s .pre) _ _ _ _ (loop .loop .inv .0)
+    (c .before .before .swept .ensures .1 _ (c .before .lowest-bit .ensures .0 .set)) .1
 
 spread-requires : tie.Need-spread-requires Inv-loop μ-loop
-spread-requires c κs = spread-asks _ _ _ _ _ _ _ (c .before .before .before .before .before .before .before .before .before .pre) _ _ _ _ (c .before .before .before .before .before .before .loop .inv .0) (c .before .before .before .before .swept .ensures .1 _ (c .before .before .before .lowest-bit .ensures .0 .set))
+spread-requires c κs =
+    let lowest = c .before .before .before in
+    let swept = lowest .before in
+    let loop = swept .before .before in
+    let s = loop .before .before .before in
+    spread-asks _ _ _ _ _ _ _ (s .pre) _ _ _ _ (loop .loop .inv .0) (swept .swept .ensures .1 _ (lowest .lowest-bit .ensures .0 .set))
 
 returns : tie.Need-returns Inv-loop μ-loop
-returns c = turn-none _ _ _ _ _ _ _ (c .before .before .before .before .before .before .before .before .before .before .before .pre) _ _ _ _ (c .before .before .before .before .before .before .before .before .loop .inv .0) (c .before .before .before .before .before .before .swept .ensures .1 _ (c .before .before .before .before .before .lowest-bit .ensures .0 .set)) _ _ (rw (c .if1 .taken) at (c .before .spread .ensures)) _
+returns c =
+    let lowest = c .before .before .before .before .before in
+    let swept = lowest .before in
+    let loop = swept .before .before in
+    let s = loop .before .before .before in
+    turn-none _ _ _ _ _ _ _ (s .pre) _ _ _ _ (loop .loop .inv .0) (swept .swept .ensures .1 _ (lowest .lowest-bit .ensures .0 .set)) _ _
+    (rw (c .if1 .taken) at (c .before .spread .ensures)) _
 
 clear-bit-requires-2 : tie.Need-clear-bit-requires-2 Inv-loop μ-loop
 clear-bit-requires-2 c κs = search needs
 
 loop-less : tie.Need-loop-less Inv-loop μ-loop
-loop-less c = rw (c .before .before .clear-bit2 .ensures) (turn-less _ _ _ _ _ _ _ (c .before .before .before .before .before .before .before .before .before .before .before .before .before .before .pre) _ _ _ _ (c .before .before .before .before .before .before .before .before .before .before .before .loop .inv .0) (c .before .before .before .before .before .before .before .before .before .swept .ensures .1 _ (c .before .before .before .before .before .before .before .before .lowest-bit .ensures .0 .set)) _ _ (rw (c .before .before .before .if1 .left) at (c .before .before .before .before .spread .ensures)))
+loop-less c =
+    let branch = c .before .before .before in
+    let spread = branch .before in
+    let lowest = spread .before .before .before .before in
+    let swept = lowest .before in
+    let loop = swept .before .before in
+    let s = loop .before .before .before in
+    rw (c .before .before .clear-bit2 .ensures)
+    (turn-less _ _ _ _ _ _ _ (s .pre) _ _ _ _ (loop .loop .inv .0) (swept .swept .ensures .1 _ (lowest .lowest-bit .ensures .0 .set)) _ _
+    (rw (branch .if1 .left) at (spread .spread .ensures)))
 
 loop-again : tie.Need-loop-again Inv-loop μ-loop
 loop-again c =
-    rw (c .before .before .clear-bit2 .ensures, c .before .before .before .before .before .before .before .clear-bit .ensures)
-    (turn-next _ _ _ _ _ _ _ (c .before .before .before .before .before .before .before .before .before .before .before .before .before .before .pre) _ _ _ _ (c .before .before .before .before .before .before .before .before .before .before .before .loop .inv .0) (c .before .before .before .before .before .before .before .before .before .swept .ensures .1 _ (c .before .before .before .before .before .before .before .before .lowest-bit .ensures .0 .set)) _ _ (rw (c .before .before .before .if1 .left) at (c .before .before .before .before .spread .ensures)), sweep-next _ _ _ _ (c .before .before .before .before .before .before .before .before .before .swept .ensures .1))
+    let branch = c .before .before .before in
+    let spread = branch .before in
+    let cleared = spread .before .before .before in
+    let lowest = cleared .before in
+    let swept = lowest .before in
+    let loop = swept .before .before in
+    let s = loop .before .before .before in
+    rw (c .before .before .clear-bit2 .ensures, cleared .clear-bit .ensures) (
+      turn-next _ _ _ _ _ _ _ (s .pre) _ _ _ _ (loop .loop .inv .0) (swept .swept .ensures .1 _ (lowest .lowest-bit .ensures .0 .set)) _ _
+          (rw (branch .if1 .left) at (spread .spread .ensures)),
+      sweep-next _ _ _ _ (swept .swept .ensures .1),
+    )
 
 returns-2 : tie.Need-returns-2 Inv-loop μ-loop
 returns-2 c = closing-end _ _ _ _ _ _ (c .loop-test .left) (c .before .loop .inv .0)

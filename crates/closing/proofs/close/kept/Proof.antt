@@ -11,7 +11,11 @@ row-requires : tie.Need-row-requires
 row-requires c κs = search needs
 
 union-requires : tie.Need-union-requires
-union-requires c κs = let p = c .before .before .before .pre in let e = ap length (c .row .ensures) ∙ rowsOf-length _ _ _ _ (p .0) (p .1) (p .2) (search needs) (search needs) in (omega (arith, e), p .5)
+union-requires c κs =
+    let s = c .before .before .before in
+    let p = s .pre in
+    let e = ap length (c .row .ensures) ∙ rowsOf-length _ _ _ _ (p .0) (p .1) (p .2) (search needs) (search needs) in
+    (omega (arith, e), p .5)
 
 returns : tie.Need-returns
 returns c = rw (c .union .ensures, c .before .row .ensures)

@@ -14,7 +14,8 @@ use Rattle.closing.proofs.close.spread.Statement.{statement}
 use Rattle.closing.proofs.close.spread.Tie as tie
 
 abbrev Inv-loop : tie.InvT-loop
-Inv-loop m₀ g near forward turned own masks changed₀ left₀ m changed left = (length m ≡ mostFields) × Spreading near (λ f. unionOf (rowsOf forward turned g f) own) m₀ left changed m
+Inv-loop m₀ g near forward turned own masks changed₀ left₀ m changed left =
+    (length m ≡ mostFields) × Spreading near (λ f. unionOf (rowsOf forward turned g f) own) m₀ left changed m
 
 abbrev μ-loop : tie.MeasureT-loop
 μ-loop m₀ g near forward turned own masks changed₀ left₀ m changed left = left
@@ -41,46 +42,84 @@ mul-old : tie.Need-mul-old Inv-loop μ-loop
 mul-old c = search needs
 
 element-copy-out-old : tie.Need-element-copy-out-old Inv-loop μ-loop
-element-copy-out-old c = omega (arith, bit-bound mostFields _ _ (c .before .before .before .before .before .before .before .before .pre .2) (c .before .before .before .loop .inv .1 .lefts _ (c .before .lowest-bit .ensures .0 .set)))
+element-copy-out-old c =
+    let loop = c .before .before .before in
+    let s = loop .before .before .before .before .before in
+    omega (arith, bit-bound mostFields _ _ (s .pre .2) (loop .loop .inv .1 .lefts _ (c .before .lowest-bit .ensures .0 .set)))
 
 kept-requires : tie.Need-kept-requires Inv-loop μ-loop
 kept-requires c κs =
-    let b = c .before .before .before .before .before .loop .inv .1 .lefts _ (c .before .before .before .lowest-bit .ensures .0 .set) in
-    let p = c .before .before .before .before .before .before .before .before .before .before .pre in
-    (p .1, bit-bound mostFields _ _ (p .2) b, (λ e. never b (ap (bit (c .before .before .before .before .before .before .before .before .before .before .args .near)) (sym e) ∙ p .3)), p .4, p .5, c .before .before .before .before .before .before .floods .ensures)
+    let lowest = c .before .before .before in
+    let loop = lowest .before .before in
+    let floods = loop .before in
+    let s = floods .before .before .before .before in
+    let b = loop .loop .inv .1 .lefts _ (lowest .lowest-bit .ensures .0 .set) in
+    let p = s .pre in
+    (p .1, bit-bound mostFields _ _ (p .2) b, (λ e. never b (ap (bit (s .args .near)) (sym e) ∙ p .3)), p .4, p .5, floods .floods .ensures)
 
 returns : tie.Need-returns Inv-loop μ-loop
 returns c =
-    let i = c .before .before .before .before .before .before .before .before .loop .inv .1 in
-    let f = bit-bound mostFields _ _ (c .before .before .before .before .before .before .before .before .before .before .before .before .before .pre .2) (c .before .before .before .before .before .before .before .before .loop .inv .1 .lefts _ (c .before .before .before .before .before .before .lowest-bit .ensures .0 .set)) in
-    spreading-none _ _ _ _ _ _ _ _ i (c .before .before .before .before .before .before .lowest-bit .ensures .0 .set) (omega (arith, f, c .before .before .before .before .before .before .before .before .loop .inv .0)) (c .before .before .kept .ensures) (c .if2 .taken) _ (i .shrunk .sized) _
+    let lowest = c .before .before .before .before .before .before in
+    let loop = lowest .before .before in
+    let s = loop .before .before .before .before .before in
+    let i = loop .loop .inv .1 in
+    let f = bit-bound mostFields _ _ (s .pre .2) (loop .loop .inv .1 .lefts _ (lowest .lowest-bit .ensures .0 .set)) in
+    spreading-none _ _ _ _ _ _ _ _ i (lowest .lowest-bit .ensures .0 .set) (omega (arith, f, loop .loop .inv .0))
+    (c .before .before .kept .ensures) (c .if2 .taken) _ (i .shrunk .sized) _
 
 mul-m : tie.Need-mul-m Inv-loop μ-loop
 mul-m c = search needs
 
 element-write-m : tie.Need-element-write-m Inv-loop μ-loop
-element-write-m c = omega (arith, bit-bound mostFields _ _ (c .before .before .before .before .before .before .before .before .before .before .before .before .before .pre .2) (c .before .before .before .before .before .before .before .before .loop .inv .1 .lefts _ (c .before .before .before .before .before .before .lowest-bit .ensures .0 .set)))
+element-write-m c =
+    let lowest = c .before .before .before .before .before .before in
+    let loop = lowest .before .before in
+    let s = loop .before .before .before .before .before in
+    omega (arith, bit-bound mostFields _ _ (s .pre .2) (loop .loop .inv .1 .lefts _ (lowest .lowest-bit .ensures .0 .set)))
 
 one-bit-requires : tie.Need-one-bit-requires Inv-loop μ-loop
 one-bit-requires c κs = search needs
 
 loop-less : tie.Need-loop-less Inv-loop μ-loop
-loop-less c = rw (c .before .before .before .before .before .before .clear-bit .ensures) (clear-lt _ _ (c .before .before .before .before .before .before .before .lowest-bit .ensures .0 .set))
+loop-less c =
+    let cleared = c .before .before .before .before .before .before in
+    let lowest = cleared .before in
+    rw (cleared .clear-bit .ensures) (clear-lt _ _ (lowest .lowest-bit .ensures .0 .set))
 
 loop-again : tie.Need-loop-again Inv-loop μ-loop
 loop-again c =
-    let i = c .before .before .before .before .before .before .before .before .before .loop .inv .1 in
-    let f = bit-bound mostFields _ _ (c .before .before .before .before .before .before .before .before .before .before .before .before .before .before .pre .2) (c .before .before .before .before .before .before .before .before .before .loop .inv .1 .lefts _ (c .before .before .before .before .before .before .before .lowest-bit .ensures .0 .set)) in
-    (simp length-set (c .before .before .before .before .before .before .before .before .before .loop .inv .0), rw (c .before .before .before .before .before .before .clear-bit .ensures, c .one-bit .ensures) (spreading-store _ _ _ _ _ _ _ _ i (c .before .before .before .before .before .before .before .lowest-bit .ensures .0 .set) (omega (arith, f, c .before .before .before .before .before .before .before .before .before .loop .inv .0)) (c .before .before .before .kept .ensures) (c .before .before .if1 .taken) (c .before .if2 .left)))
+    let kept = c .before .before .before in
+    let cleared = kept .before .before .before in
+    let lowest = cleared .before in
+    let loop = lowest .before .before in
+    let s = loop .before .before .before .before .before in
+    let i = loop .loop .inv .1 in
+    let f = bit-bound mostFields _ _ (s .pre .2) (loop .loop .inv .1 .lefts _ (lowest .lowest-bit .ensures .0 .set)) in (
+      simp length-set (loop .loop .inv .0),
+      rw (cleared .clear-bit .ensures, c .one-bit .ensures)
+          (spreading-store _ _ _ _ _ _ _ _ i (lowest .lowest-bit .ensures .0 .set) (omega (arith, f, loop .loop .inv .0))
+          (kept .kept .ensures) (c .before .before .if1 .taken) (c .before .if2 .left)),
+    )
 
 loop-less-2 : tie.Need-loop-less-2 Inv-loop μ-loop
-loop-less-2 c = rw (c .before .before .before .before .clear-bit .ensures) (clear-lt _ _ (c .before .before .before .before .before .lowest-bit .ensures .0 .set))
+loop-less-2 c =
+    let cleared = c .before .before .before .before in
+    let lowest = cleared .before in
+    rw (cleared .clear-bit .ensures) (clear-lt _ _ (lowest .lowest-bit .ensures .0 .set))
 
 loop-again-2 : tie.Need-loop-again-2 Inv-loop μ-loop
 loop-again-2 c =
-    let i = c .before .before .before .before .before .before .before .loop .inv .1 in
-    let f = bit-bound mostFields _ _ (c .before .before .before .before .before .before .before .before .before .before .before .before .pre .2) (c .before .before .before .before .before .before .before .loop .inv .1 .lefts _ (c .before .before .before .before .before .lowest-bit .ensures .0 .set)) in
-    (c .before .before .before .before .before .before .before .loop .inv .0, rw (c .before .before .before .before .clear-bit .ensures) (spreading-same _ _ _ _ _ _ _ _ i (c .before .before .before .before .before .lowest-bit .ensures .0 .set) (omega (arith, f, c .before .before .before .before .before .before .before .loop .inv .0)) (c .before .kept .ensures) (c .if1 .left)))
+    let cleared = c .before .before .before .before in
+    let lowest = cleared .before in
+    let loop = lowest .before .before in
+    let s = loop .before .before .before .before .before in
+    let i = loop .loop .inv .1 in
+    let f = bit-bound mostFields _ _ (s .pre .2) (loop .loop .inv .1 .lefts _ (lowest .lowest-bit .ensures .0 .set)) in (
+      loop .loop .inv .0,
+      rw (cleared .clear-bit .ensures)
+          (spreading-same _ _ _ _ _ _ _ _ i (lowest .lowest-bit .ensures .0 .set) (omega (arith, f, loop .loop .inv .0))
+          (c .before .kept .ensures) (c .if1 .left)),
+    )
 
 returns-2 : tie.Need-returns-2 Inv-loop μ-loop
 returns-2 c = spreading-end _ _ _ _ _ _ (c .loop-test .left) (c .before .loop .inv .1)

@@ -9,13 +9,22 @@ use Rattle.closing.proofs.test.remove.Statement.{statement}
 use Rattle.closing.proofs.test.remove.Tie as tie
 
 lose-in-requires : tie.Need-lose-in-requires
-lose-in-requires c κs = let l = place-bound _ _ _ _ _ (c .before .before .before .pre .0) _ _ (c .before .before .before .pre .1) in (l .1, omega (arith, l .2))
+lose-in-requires c κs =
+    let s = c .before .before .before in
+    let l = place-bound _ _ _ _ _ (s .pre .0) _ _ (s .pre .1) in
+    (l .1, omega (arith, l .2))
 
 returns : tie.Need-returns
-returns c = rw (c .before .lose-in .ensures .1) (removed-empty _ _ _ _ _ (c .before .before .before .before .before .pre .0) _ _ (c .before .before .before .before .before .pre .1) (sym (c .before .lose-in .ensures .0) ∙ c .if1 .taken))
+returns c =
+    let s = c .before .before .before .before .before in
+    rw (c .before .lose-in .ensures .1)
+    (removed-empty _ _ _ _ _ (s .pre .0) _ _ (s .pre .1) (sym (c .before .lose-in .ensures .0) ∙ c .if1 .taken))
 
 one-bit-requires : tie.Need-one-bit-requires
-one-bit-requires c κs = let l = place-bound _ _ _ _ _ (c .before .before .before .before .before .pre .0) _ _ (c .before .before .before .before .before .pre .1) in omega (arith, l .1)
+one-bit-requires c κs =
+    let s = c .before .before .before .before .before in
+    let l = place-bound _ _ _ _ _ (s .pre .0) _ _ (s .pre .1) in
+    omega (arith, l .1)
 
 all-fields-requires : tie.Need-all-fields-requires
 all-fields-requires c κs = search needs
@@ -23,14 +32,21 @@ all-fields-requires c κs = search needs
 close-requires : tie.Need-close-requires
 unfolding allFields problemOf
 close-requires c κs =
-    rw (c .all-fields .ensures, c .before .before .one-bit .ensures, c .before .before .before .before .lose-in .ensures .1)
-    (lose-asks _ _ _ _ _ (c .before .before .before .before .before .before .before .before .pre .0) _ _ (c .before .before .before .before .before .before .before .before .pre .1) (sym (c .before .before .before .before .lose-in .ensures .0) ∙ c .before .before .before .if1 .left))
+    let branch = c .before .before .before in
+    let lose-in = branch .before in
+    let s = lose-in .before .before .before .before in
+    rw (c .all-fields .ensures, c .before .before .one-bit .ensures, lose-in .lose-in .ensures .1)
+    (lose-asks _ _ _ _ _ (s .pre .0) _ _ (s .pre .1) (sym (lose-in .lose-in .ensures .0) ∙ branch .if1 .left))
 
 returns-2 : tie.Need-returns-2
 unfolding allFields problemOf
 returns-2 c =
-    rw (c .before .before .before .before .one-bit .ensures)
-    (removed-closed _ _ _ _ _ (c .before .before .before .before .before .before .before .before .before .before .pre .0) _ _ (c .before .before .before .before .before .before .before .before .before .before .pre .1) _ _ _ (rw (c .before .before .all-fields .ensures, c .before .before .before .before .before .before .lose-in .ensures .1) at (c .before .close .ensures)))
+    let bit-set = c .before .before .before .before in
+    let lose-in = bit-set .before .before in
+    let s = lose-in .before .before .before .before in
+    rw (bit-set .one-bit .ensures)
+    (removed-closed _ _ _ _ _ (s .pre .0) _ _ (s .pre .1) _ _ _
+    (rw (c .before .before .all-fields .ensures, lose-in .lose-in .ensures .1) at (c .before .close .ensures)))
 
 pub remove-spec : {M : Type 1} → statement M
 remove-spec =

@@ -52,7 +52,9 @@ round-requires c κs =
     ((kept-asks _ _ _ _ live (i .0 .kept .1), i .1), (p .0 .1, i .0 .small))
 
 same-length : tie.Need-same-length Inv-loop μ-loop
-same-length c = let round = c .before .before .before in round .round .kept .1 .1 .0 ∙ round .before .before .before .before .before .loop .inv .2
+same-length c =
+    let round = c .before .before .before in
+    round .round .kept .1 .1 .0 ∙ round .before .before .before .before .before .loop .inv .2
 
 returns-2 : tie.Need-returns-2 Inv-loop μ-loop
 returns-2 c =

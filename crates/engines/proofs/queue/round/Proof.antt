@@ -38,25 +38,27 @@ has-bit-requires c κs = search needs
 
 visit-requires : tie.Need-visit-requires Inv-loop μ-loop
 visit-requires c κs =
-    let at = c .before .before .before .before .before in
-    let loop = at .before .before in
+    let field = c .before .before .before .before .before in
+    let loop = field .before .before in
     let p = loop .before .before .before .before .before .pre in (
       (kept-asks _ _ _ _ (p .0 .0) (loop .loop .inv .1 .1 .kept), loop .loop .inv .2),
-      rw (at .field-at .ensures .0) (visit-asks _ _ _ _ _ _ (p .1 .0) (p .0 .0 .wired .few) _ (at .before .loop-test .taken)),
+      rw (field .field-at .ensures .0) (visit-asks _ _ _ _ _ _ (p .1 .0) (p .0 .0 .wired .few) _ (field .before .loop-test .taken)),
     )
 
 same-length : tie.Need-same-length Inv-loop μ-loop
-same-length c = let visit = c .before .before .before in visit .visit .kept .1 .1 .0 ∙ visit .before .before .before .before .before .before .before .before .loop .inv .3
+same-length c =
+    let visit = c .before .before .before in
+    visit .visit .kept .1 .1 .0 ∙ visit .before .before .before .before .before .before .before .before .loop .inv .3
 
 returns : tie.Need-returns Inv-loop μ-loop
 unfolding problemOf
 returns c =
     let visit = c .before .before .before in
-    let at = visit .before .before .before .before .before .before in
-    let loop = at .before .before in
+    let field = visit .before .before .before .before .before .before in
+    let loop = field .before .before in
     let p = loop .before .before .before .before .before .pre in
-    let low = visit-asks _ _ _ _ _ _ (p .1 .0) (p .0 .0 .wired .few) _ (at .before .loop-test .taken) .0 in
-    let visited = rw (at .field-at .ensures .0) at (visit .visit .ensures .0) in
+    let low = visit-asks _ _ _ _ _ _ (p .1 .0) (p .0 .0 .wired .few) _ (field .before .loop-test .taken) .0 in
+    let visited = rw (field .field-at .ensures .0) at (visit .visit .ensures .0) in
     (waiting-none _ _ _ _ _ _ _ _ _ (loop .loop .inv .1 .1) low _ _ _ visited (c .if2 .taken) _, visit .visit .ensures .1)
 
 clear-bit-requires : tie.Need-clear-bit-requires Inv-loop μ-loop
@@ -78,11 +80,11 @@ loop-again : tie.Need-loop-again Inv-loop μ-loop
 unfolding problemOf
 loop-again c =
     let visit = c .before .before .before .before .before in
-    let at = visit .before .before .before .before .before .before in
-    let loop = at .before .before in
+    let field = visit .before .before .before .before .before .before in
+    let loop = field .before .before in
     let p = loop .before .before .before .before .before .pre in
-    let e = at .field-at .ensures .0 in
-    let low = visit-asks _ _ _ _ _ _ (p .1 .0) (p .0 .0 .wired .few) _ (at .before .loop-test .taken) .0 in
+    let e = field .field-at .ensures .0 in
+    let low = visit-asks _ _ _ _ _ _ (p .1 .0) (p .0 .0 .wired .few) _ (field .before .loop-test .taken) .0 in
     let visited = rw e at (visit .visit .ensures .0) in
     let back = rw (c .before .clear-bit .ensures, e) at (c .put-back .ensures) in (
       search needs,
@@ -107,7 +109,8 @@ returns-2 : tie.Need-returns-2 Inv-loop μ-loop
 unfolding problemOf
 returns-2 c =
     let loop = c .before in
-    (waiting-end _ _ _ _ _ _ _ _ _ (loop .before .before .before .before .before .pre .1 .0 .visits) (c .loop-test .left) (loop .loop .inv .1 .1), loop .loop .inv .2)
+    let p = loop .before .before .before .before .before .pre in
+    (waiting-end _ _ _ _ _ _ _ _ _ (p .1 .0 .visits) (c .loop-test .left) (loop .loop .inv .1 .1), loop .loop .inv .2)
 
 pub round-spec : {M : Type 1} → statement M
 round-spec =

@@ -30,7 +30,8 @@ returns-2 : tie.Need-returns-2
 unfolding allFields problemOf
 returns-2 c =
     let all = c .before .before .before .before in
-    begun-closed _ _ (all .before .before .before .before .before .before .pre .on) _ _ _ (rw (all .all-fields .ensures) at (c .close .ensures))
+    let s = all .before .before .before .before .before .before in
+    begun-closed _ _ (s .pre .on) _ _ _ (rw (all .all-fields .ensures) at (c .close .ensures))
 
 pub begin-spec : {M : Type 1} → statement M
 begin-spec =

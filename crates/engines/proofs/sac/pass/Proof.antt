@@ -32,25 +32,27 @@ add-q c = search needs
 
 visit-requires : tie.Need-visit-requires Inv-loop μ-loop
 visit-requires c κs =
-    let at = c .before .before .before in
-    let loop = at .before .before in
+    let field = c .before .before .before in
+    let loop = field .before .before in
     let s = loop .before .before .before .before .before in (
       (kept-asks _ _ _ _ (s .pre .0 .0) (loop .loop .inv .1 .kept), loop .loop .inv .2),
-      rw (at .field-at .ensures .0) (visit-asks _ _ _ _ _ _ (s .pre .1) (s .pre .0 .0 .wired .few) _ (at .before .loop-test .taken)),
+      rw (field .field-at .ensures .0) (visit-asks _ _ _ _ _ _ (s .pre .1) (s .pre .0 .0 .wired .few) _ (field .before .loop-test .taken)),
     )
 
 same-length : tie.Need-same-length Inv-loop μ-loop
-same-length c = let visit = c .before .before .before in visit .visit .kept .1 .1 .0 ∙ visit .before .before .before .before .before .before .loop .inv .3
+same-length c =
+    let visit = c .before .before .before in
+    visit .visit .kept .1 .1 .0 ∙ visit .before .before .before .before .before .before .loop .inv .3
 
 returns : tie.Need-returns Inv-loop μ-loop
 unfolding problemOf
 returns c =
     let visit = c .before .before .before in
-    let at = visit .before .before .before .before in
-    let loop = at .before .before in
+    let field = visit .before .before .before .before in
+    let loop = field .before .before in
     let s = loop .before .before .before .before .before in
-    let low = visit-asks _ _ _ _ _ _ (s .pre .1) (s .pre .0 .0 .wired .few) _ (at .before .loop-test .taken) .0 in
-    let visited = rw (at .field-at .ensures .0) at (visit .visit .ensures .0) in
+    let low = visit-asks _ _ _ _ _ _ (s .pre .1) (s .pre .0 .0 .wired .few) _ (field .before .loop-test .taken) .0 in
+    let visited = rw (field .field-at .ensures .0) at (visit .visit .ensures .0) in
     (passing-none _ _ _ _ _ _ _ (loop .loop .inv .1) low _ _ _ visited (c .if1 .taken) _, visit .visit .ensures .1)
 
 loop-less : tie.Need-loop-less Inv-loop μ-loop
@@ -60,11 +62,11 @@ loop-again : tie.Need-loop-again Inv-loop μ-loop
 unfolding problemOf
 loop-again c =
     let visit = c .before .before .before .before in
-    let at = visit .before .before .before .before in
-    let loop = at .before .before in
+    let field = visit .before .before .before .before in
+    let loop = field .before .before in
     let s = loop .before .before .before .before .before in
-    let low = visit-asks _ _ _ _ _ _ (s .pre .1) (s .pre .0 .0 .wired .few) _ (at .before .loop-test .taken) .0 in
-    let visited = rw (at .field-at .ensures .0) at (visit .visit .ensures .0) in (
+    let low = visit-asks _ _ _ _ _ _ (s .pre .1) (s .pre .0 .0 .wired .few) _ (field .before .loop-test .taken) .0 in
+    let visited = rw (field .field-at .ensures .0) at (visit .visit .ensures .0) in (
       search needs,
       passing-turn _ _ _ _ _ _ _ (loop .loop .inv .1) low _ _ _ visited (c .before .if1 .left),
       visit .visit .ensures .1,
@@ -78,7 +80,8 @@ returns-2 : tie.Need-returns-2 Inv-loop μ-loop
 unfolding problemOf
 returns-2 c =
     let loop = c .before in
-    (passing-end _ _ _ _ _ _ _ (loop .before .before .before .before .before .pre .1 .visits) (c .loop-test .left) (loop .loop .inv .1), loop .loop .inv .2)
+    let p = loop .before .before .before .before .before .pre in
+    (passing-end _ _ _ _ _ _ _ (p .1 .visits) (c .loop-test .left) (loop .loop .inv .1), loop .loop .inv .2)
 
 pub pass-spec : {M : Type 1} → statement M
 pass-spec =

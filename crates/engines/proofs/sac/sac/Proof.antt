@@ -28,7 +28,8 @@ returns c = begun-engine _ _ _ _ (rw (c .if1 .taken) at (c .before .begin .ensur
 loop-holds : tie.Need-loop-holds Inv-loop μ-loop
 loop-holds c =
     let begun = c .before in
-    ((0, kept-start _ _ _ (begun .begin .ensures .live (c .if1 .left))), store-start _ _ _ (begun .before .before .before .before .before .before .pre .1), refl)
+    let p = begun .before .before .before .before .before .before .pre in
+    ((0, kept-start _ _ _ (begun .begin .ensures .live (c .if1 .left))), store-start _ _ _ (p .1), refl)
 
 pass-requires : tie.Need-pass-requires Inv-loop μ-loop
 pass-requires c κs =
@@ -50,7 +51,9 @@ returns-2 c =
     engine-none _ _ _ _ begun (kept-wiped _ (loop .loop .inv .0 .1) (pass .pass .ensures .0 .none (c .if2 .taken)))
 
 same-length-2 : tie.Need-same-length-2 Inv-loop μ-loop
-same-length-2 c = let pass = c .before .before .before .before .before in pass .pass .kept .1 .1 .0 ∙ pass .before .before .before .before .loop .inv .2
+same-length-2 c =
+    let pass = c .before .before .before .before .before in
+    pass .pass .kept .1 .1 .0 ∙ pass .before .before .before .before .loop .inv .2
 
 returns-3 : tie.Need-returns-3 Inv-loop μ-loop
 returns-3 c =
@@ -62,7 +65,9 @@ returns-3 c =
     engine-done _ _ _ _ begun (kept-then _ (loop .loop .inv .0 .1) (p .kept e)) (p .done e (c .if3 .taken))
 
 loop-less : tie.Need-loop-less Inv-loop μ-loop
-loop-less c = shrunk-fewer (c .before .before .before .before .before .pass .ensures .0 .kept (c .before .before .if2 .left) .shrunk) (c .if3 .left)
+loop-less c =
+    let p = c .before .before .before .before .before .pass .ensures .0 in
+    shrunk-fewer (p .kept (c .before .before .if2 .left) .shrunk) (c .if3 .left)
 
 loop-again : tie.Need-loop-again Inv-loop μ-loop
 loop-again c =

@@ -28,10 +28,12 @@ same-length c = search needs
 
 returns : tie.Need-returns
 returns c =
-    let filled = c .before .before .before .before in
+    let before = c .before .before .before in
+    let filled = before .before in
     let reach = filled .before .before in
     let fields = reach .before in
-    network-of _ (fields .before .before .before .pre .0) _ _ _ (filled .fill .ensures) _ (fields .fields .ensures) (reach .reach .ensures) refl
+    network-of _ (fields .before .before .before .pre .0) _ _ _ (filled .fill .ensures) _ (fields .fields .ensures)
+    (reach .reach .ensures) refl
     (c .neighbourhoods .ensures)
 
 pub build-spec : {M : Type 1} → statement M

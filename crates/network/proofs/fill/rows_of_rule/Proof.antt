@@ -1,3 +1,4 @@
+-- `rows_of_rule` makes row after row.
 use mathlib.Core.Path.{_≡_}
 use Prim.Native.Nat.{_-_, _≤_}
 use borrow.Author.Needs.{needs}
@@ -19,10 +20,20 @@ row-of-rule-requires : tie.Need-row-of-rule-requires Inv-loop μ-loop
 row-of-rule-requires c κs = (c .before .before .before .pre .0, rw (c .before .before .before .pre .1) at (c .loop-test .taken))
 
 mul-rows : tie.Need-mul-rows Inv-loop μ-loop
-mul-rows c = let k = counts-few _ _ _ _ _ _ _ (c .before .before .before .before .pre .0) .0 in let e = c .before .before .before .before .pre .1 in let z = c .before .before .loop .inv .1 .sized in search needs
+mul-rows c =
+    let s = c .before .before .before .before in
+    let k = counts-few _ _ _ _ _ _ _ (s .pre .0) .0 in
+    let e = s .pre .1 in
+    let z = c .before .before .loop .inv .1 .sized in
+    search needs
 
 array-write-rows : tie.Need-array-write-rows Inv-loop μ-loop
-array-write-rows c = let k = counts-few _ _ _ _ _ _ _ (c .before .before .before .before .pre .0) .0 in let e = c .before .before .before .before .pre .1 in let z = c .before .before .loop .inv .1 .sized in search needs
+array-write-rows c =
+    let s = c .before .before .before .before in
+    let k = counts-few _ _ _ _ _ _ _ (s .pre .0) .0 in
+    let e = s .pre .1 in
+    let z = c .before .before .loop .inv .1 .sized in
+    search needs
 
 add-v : tie.Need-add-v Inv-loop μ-loop
 add-v c = search needs
@@ -31,7 +42,12 @@ loop-less : tie.Need-loop-less Inv-loop μ-loop
 loop-less c = search needs
 
 loop-again : tie.Need-loop-again Inv-loop μ-loop
-loop-again c = (search needs, rows-next _ _ _ _ _ (let k = counts-few _ _ _ _ _ _ _ (c .before .before .before .before .pre .0) .0 in let e = c .before .before .before .before .pre .1 in search needs) (c .row-of-rule .ensures) (c .before .before .loop .inv .1))
+loop-again c =
+    let s = c .before .before .before .before in (
+      search needs,
+      rows-next _ _ _ _ _ (let k = counts-few _ _ _ _ _ _ _ (s .pre .0) .0 in let e = s .pre .1 in search needs)
+          (c .row-of-rule .ensures) (c .before .before .loop .inv .1),
+    )
 
 returns : tie.Need-returns Inv-loop μ-loop
 returns c = let e : c .before .loop .v ≡ c .before .before .before .args .n = search needs in rw e at (c .before .loop .inv .1)

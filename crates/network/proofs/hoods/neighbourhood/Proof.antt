@@ -22,7 +22,11 @@ one-bit-requires : tie.Need-one-bit-requires Inv-loop μ-loop
 one-bit-requires c κs = search needs
 
 loop-holds : tie.Need-loop-holds Inv-loop μ-loop
-loop-holds c = (search needs, hood-start _ _ _ _ (c .before .before .pre .0) (c .before .before .pre .2) (c .before .before .pre .1) (c .one-bit .ensures))
+loop-holds c = (
+  search needs,
+  hood-start _ _ _ _ (c .before .before .pre .0) (c .before .before .pre .2) (c .before .before .pre .1)
+      (c .one-bit .ensures),
+)
 
 widen-requires : tie.Need-widen-requires Inv-loop μ-loop
 widen-requires c κs = search needs
@@ -34,10 +38,15 @@ loop-less : tie.Need-loop-less Inv-loop μ-loop
 loop-less c = search needs
 
 loop-again : tie.Need-loop-again Inv-loop μ-loop
-loop-again c = (search needs, hood-turn _ _ _ _ _ _ (c .before .before .before .before .before .pre .0) (c .before .before .before .before .before .pre .2) (c .widen .ensures) (c .before .before .loop .inv .1))
+loop-again c =
+    let s = c .before .before .before .before .before in
+    (search needs, hood-turn _ _ _ _ _ _ (s .pre .0) (s .pre .2) (c .widen .ensures) (c .before .before .loop .inv .1))
 
 returns-2 : tie.Need-returns-2 Inv-loop μ-loop
-returns-2 c = let e : c .before .loop .k ≡ c .before .before .before .before .args .reach = search needs in hood-near _ _ _ _ _ (search needs) (rw e at (c .before .loop .inv .1))
+returns-2 c =
+    let s = c .before .before .before .before in
+    let e : c .before .loop .k ≡ s .args .reach = search needs in
+    hood-near _ _ _ _ _ (search needs) (rw e at (c .before .loop .inv .1))
 
 pub neighbourhood-spec : {M : Type 1} → statement M
 neighbourhood-spec =

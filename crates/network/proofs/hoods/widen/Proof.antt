@@ -32,13 +32,17 @@ loop-less : tie.Need-loop-less Inv-loop μ-loop
 loop-less c = search needs
 
 loop-again : tie.Need-loop-again Inv-loop μ-loop
-loop-again c = (search needs, widening-in _ _ _ _ (c .before .before .before .before .loop .inv .1) (sym (c .before .before .has-bit .ensures) ∙ c .before .if1 .taken))
+loop-again c =
+    let loop = c .before .before .before .before in
+    (search needs, widening-in _ _ _ _ (loop .loop .inv .1) (sym (c .before .before .has-bit .ensures) ∙ c .before .if1 .taken))
 
 loop-less-2 : tie.Need-loop-less-2 Inv-loop μ-loop
 loop-less-2 c = search needs
 
 loop-again-2 : tie.Need-loop-again-2 Inv-loop μ-loop
-loop-again-2 c = (search needs, widening-out _ _ _ _ (c .before .before .before .loop .inv .1) (sym (c .before .has-bit .ensures) ∙ c .if1 .left))
+loop-again-2 c =
+    let loop = c .before .before .before in
+    (search needs, widening-out _ _ _ _ (loop .loop .inv .1) (sym (c .before .has-bit .ensures) ∙ c .if1 .left))
 
 returns : tie.Need-returns Inv-loop μ-loop
 returns c = let e : c .before .loop .h ≡ mostFields = search needs in rw e at (c .before .loop .inv .1)

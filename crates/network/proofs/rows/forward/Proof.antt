@@ -10,7 +10,9 @@ use Rattle.network.proofs.rows.forward.Statement.{statement}
 use Rattle.network.proofs.rows.forward.Tie as tie
 
 slice-aggregate-result : tie.Need-slice-aggregate-result
-slice-aggregate-result c = let l : tableWords ≤ length (c .before .args .rows .now) = omega arith in sym (length-take-le tableWords (c .before .args .rows .now) l)
+slice-aggregate-result c =
+    let l : tableWords ≤ length (c .before .args .rows .now) = omega arith in
+    sym (length-take-le tableWords (c .before .args .rows .now) l)
 
 returns : tie.Need-returns
 unfolding forwardOf

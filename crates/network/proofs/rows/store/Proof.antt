@@ -38,7 +38,11 @@ loop-less : tie.Need-loop-less Inv-loop μ-loop
 loop-less c = search needs
 
 loop-again : tie.Need-loop-again Inv-loop μ-loop
-loop-again c = (search needs, stored-turn _ _ _ _ _ _ (c .before .loop-test .taken) (let z = c .before .before .loop .inv .1 .sized in omega arith) (sym (wordsOf-at _ _)) (c .before .before .loop .inv .1))
+loop-again c = (
+  search needs,
+  stored-turn _ _ _ _ _ _ (c .before .loop-test .taken) (let z = c .before .before .loop .inv .1 .sized in omega arith)
+      (sym (wordsOf-at _ _)) (c .before .before .loop .inv .1),
+)
 
 same-length : tie.Need-same-length Inv-loop μ-loop
 same-length c = c .before .loop .inv .1 .sized

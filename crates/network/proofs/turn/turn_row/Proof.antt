@@ -37,7 +37,15 @@ loop-less : tie.Need-loop-less Inv-loop μ-loop
 loop-less c = search needs
 
 loop-again : tie.Need-loop-again Inv-loop μ-loop
-loop-again c = (search needs, rw (c .before .flood .ensures, c .before .before .before .before .one-bit .ensures) (turning-next _ _ _ _ _ (let z = c .before .before .before .before .before .pre .0 in omega arith) (let z = c .before .before .before .loop .inv .1 .sized in let y = c .before .before .before .before .before .pre .2 in let s = c .before .before .before .before .before .pre .1 in omega arith) (c .before .before .before .loop .inv .1)))
+loop-again c =
+    let loop = c .before .before .before in
+    let own = loop .before in
+    let s = own .before in (
+      search needs,
+      rw (c .before .flood .ensures, own .one-bit .ensures)
+          (turning-next _ _ _ _ _ (let z = s .pre .0 in omega arith)
+          (let z = loop .loop .inv .1 .sized in let y = s .pre .2 in let x = s .pre .1 in omega arith) (loop .loop .inv .1)),
+    )
 
 returns : tie.Need-returns Inv-loop μ-loop
 returns c = let e : c .before .loop .u ≡ c .before .before .before .args .side = search needs in rw e at (c .before .loop .inv .1)

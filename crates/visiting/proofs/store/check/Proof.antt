@@ -83,19 +83,25 @@ store-requires c κs =
 
 one-bit-requires : tie.Need-one-bit-requires
 one-bit-requires c κs =
-    let l = placed (c .before .before .before .before .before .before .before .before .before .before .before .before .before .before .before .before .before) .1 in
+    let t = c .before .before .before .before .before .before .before .before in
+    let l = placed (t .before .before .before .before .before .before .before .before .before) .1 in
     omega arith
 
 mul-known : tie.Need-mul-known
 mul-known c =
-    let l = placed (c .before .before .before .before .before .before .before .before .before .before .before .before .before .before .before .before .before .before) .0 in
+    let t = c .before .before .before .before .before .before .before .before .before in
+    let l = placed (t .before .before .before .before .before .before .before .before .before) .0 in
     omega arith
 
 element-copy-out-known : tie.Need-element-copy-out-known
-element-copy-out-known c = let t = c .before .before .before .before .before .before .before .before .before in placed (t .before .before .before .before .before .before .before .before .before) .0
+element-copy-out-known c =
+    let t = c .before .before .before .before .before .before .before .before .before in
+    placed (t .before .before .before .before .before .before .before .before .before) .0
 
 element-write-known : tie.Need-element-write-known
-element-write-known c = let t = c .before .before .before .before .before .before .before .before .before .before in placed (t .before .before .before .before .before .before .before .before .before) .0
+element-write-known c =
+    let t = c .before .before .before .before .before .before .before .before .before .before in
+    placed (t .before .before .before .before .before .before .before .before .before) .0
 
 same-length-2 : tie.Need-same-length-2
 same-length-2 c = c .before .before .before .before .store .ensures .sized

@@ -14,7 +14,8 @@ use Rattle.visiting.proofs.store.intact.Statement.{statement}
 use Rattle.visiting.proofs.store.intact.Tie as tie
 
 abbrev Inv-loop : tie.InvT-loop
-Inv-loop memory base m lack₀ h₀ lack h = (h ≤ mostFields) × (lack ≡ lackBelow h memory base m) × ((j : ℕ) → j < h → getD memory (base + j) 0 < 2 ^ 32)
+Inv-loop memory base m lack₀ h₀ lack h =
+    (h ≤ mostFields) × (lack ≡ lackBelow h memory base m) × ((j : ℕ) → j < h → getD memory (base + j) 0 < 2 ^ 32)
 
 abbrev μ-loop : tie.MeasureT-loop
 μ-loop memory base m lack₀ h₀ lack h = mostFields - h
@@ -45,18 +46,23 @@ loop-less c = search needs
 
 loop-again : tie.Need-loop-again Inv-loop μ-loop
 loop-again c =
-    let i = c .before .before .before .loop .inv in (
+    let loop = c .before .before .before in
+    let i = loop .loop .inv in (
       search needs,
       rw (i .1) (sym (lack-next _ _ _ _)),
-      λ j l. ⊎-elim (λ (q : j ≡ c .before .before .before .loop .h). rw q (c .before .shared-slice-known .given _ .fits)) (λ q. i .2 j q) (eq-or-lt-of-le (let k : j ≤ c .before .before .before .loop .h = omega arith in k)),
+      λ j l. ⊎-elim (λ (q : j ≡ loop .loop .h). rw q (c .before .shared-slice-known .given _ .fits)) (λ q. i .2 j q)
+          (eq-or-lt-of-le (let k : j ≤ loop .loop .h = omega arith in k)),
     )
 
 returns : tie.Need-returns Inv-loop μ-loop
 returns c =
     let i = c .before .loop .inv in
     let e : c .before .loop .h ≡ mostFields = omega arith in
-    let z = rw e at (i .1) in
-    (ap (λ (x : ℕ). eqb x 0) z, λ t. lack-inside _ _ _ (λ j l. i .2 j (omega arith)) (c .before .before .pre .1 .small) (c .before .before .pre .0) (sym z ∙ eqb-true _ 0 t))
+    let z = rw e at (i .1) in (
+      ap (λ (x : ℕ). eqb x 0) z,
+      λ t. lack-inside _ _ _ (λ j l. i .2 j (omega arith)) (c .before .before .pre .1 .small)
+          (c .before .before .pre .0) (sym z ∙ eqb-true _ 0 t),
+    )
 
 pub intact-spec : {M : Type 1} → statement M
 intact-spec =

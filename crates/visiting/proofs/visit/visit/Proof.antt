@@ -62,42 +62,53 @@ remove-requires c κs =
     )
 
 same-length : tie.Need-same-length Inv-loop μ-loop
-same-length c = let check = c .before .before .before .before .before .before .before .before in check .check .kept .1 .1 .0 ∙ check .before .before .before .before .before .before .before .before .before .before .loop .inv .2
+same-length c =
+    let check = c .before .before .before .before .before .before .before .before in
+    check .check .kept .1 .1 .0 ∙ check .before .before .before .before .before .before .before .before .before .before .loop .inv .2
 
 returns : tie.Need-returns Inv-loop μ-loop
 returns c =
-    let check = c .before .before .before .before .before .before .before .before in
-    let fails = sym (check .check .ensures .passed) ∙ not-true (check .check .result) (c .before .before .before .before .before .if1 .taken) in (
-      visiting-none _ _ _ _ _ _ _ _ (check .before .before .before .before .before .before .before .before .before .before .loop .inv .0) fails _ _ (rw (c .if2 .taken) at (c .before .remove .ensures)) _,
+    let failed = c .before .before .before .before .before in
+    let check = failed .before .before .before in
+    let loop = check .before .before .before .before .before .before .before .before .before .before in
+    let fails = sym (check .check .ensures .passed) ∙ not-true (check .check .result) (failed .if1 .taken) in (
+      visiting-none _ _ _ _ _ _ _ _ (loop .loop .inv .0) fails _ _ (rw (c .if2 .taken) at (c .before .remove .ensures)) _,
       check .check .ensures .store,
     )
 
 mul-left-2 : tie.Need-mul-left-2 Inv-loop μ-loop
 mul-left-2 c =
-    let loop = c .before .before .before .before .before .before .before .before .before .before .before .before .before .before .before .before .before .before .before in
+    let check = c .before .before .before .before .before .before .before .before .before in
+    let loop = check .before .before .before .before .before .before .before .before .before .before in
     let l = low (loop .before .before .before .before .before) in
     omega arith
 
 element-copy-out-left-2 : tie.Need-element-copy-out-left-2 Inv-loop μ-loop
 element-copy-out-left-2 c =
-    let loop = c .before .before .before .before .before .before .before .before .before .before .before .before .before .before .before .before .before .before .before in
+    let check = c .before .before .before .before .before .before .before .before .before in
+    let loop = check .before .before .before .before .before .before .before .before .before .before in
     low (loop .before .before .before .before .before)
 
 loop-less : tie.Need-loop-less Inv-loop μ-loop
 loop-less c =
-    let clear = c .before .before .before .before .before .before .before .before .before .before .before .before .before .before .before .before .before in
+    let removed = c .before .before .before in
+    let clear = removed .before .before .before .before .before .before .before .before .before .before .before .before .before .before in
     let l = clear-lt _ _ (clear .before .lowest-bit .ensures .0 .set) in
     let e = clear .clear-bit .ensures in
-    let k = and-le-l (clear .clear-bit .result) (getD (c .before .before .before .remove .last .0) (clear .before .before .before .before .before .before .before .before .args .f) 0) in
+    let s = clear .before .before .before .before .before .before .before .before in
+    let k = and-le-l (clear .clear-bit .result) (getD (removed .remove .last .0) (s .args .f) 0) in
     omega (arith, l, e, k)
 
 loop-again : tie.Need-loop-again Inv-loop μ-loop
 loop-again c =
-    let check = c .before .before .before .before .before .before .before .before .before .before in
-    let loop = check .before .before .before .before .before .before .before .before .before .before in
-    let fails = sym (check .check .ensures .passed) ∙ not-true (check .check .result) (c .before .before .before .before .before .before .before .if1 .taken) in (
-      rw (check .before .before .before .before .before .before .before .clear-bit .ensures)
-          (visiting-fail _ _ _ _ _ _ _ _ (loop .loop .inv .0) fails _ _ (rw (c .before .before .if2 .left) at (c .before .before .before .remove .ensures))),
+    let removed = c .before .before .before in
+    let failed = removed .before .before .before .before in
+    let check = failed .before .before .before in
+    let clear = check .before .before .before .before .before .before .before in
+    let loop = clear .before .before .before in
+    let fails = sym (check .check .ensures .passed) ∙ not-true (check .check .result) (failed .if1 .taken) in
+    let lost = rw (c .before .before .if2 .left) at (removed .remove .ensures) in (
+      rw (clear .clear-bit .ensures) (visiting-fail _ _ _ _ _ _ _ _ (loop .loop .inv .0) fails _ _ lost),
       check .check .ensures .store,
       check .check .kept .1 .1 .0 ∙ loop .loop .inv .2,
     )
@@ -110,9 +121,10 @@ loop-less-2 c =
 loop-again-2 : tie.Need-loop-again-2 Inv-loop μ-loop
 loop-again-2 c =
     let check = c .before .before .before in
-    let loop = check .before .before .before .before .before .before .before .before .before .before in
+    let clear = check .before .before .before .before .before .before .before in
+    let loop = clear .before .before .before in
     let passes = sym (check .check .ensures .passed) ∙ not-false (check .check .result) (c .if1 .left) in (
-      rw (check .before .before .before .before .before .before .before .clear-bit .ensures) (visiting-pass _ _ _ _ _ _ _ _ (loop .loop .inv .0) passes),
+      rw (clear .clear-bit .ensures) (visiting-pass _ _ _ _ _ _ _ _ (loop .loop .inv .0) passes),
       check .check .ensures .store,
       check .check .kept .1 .1 .0 ∙ loop .loop .inv .2,
     )
