@@ -8,27 +8,27 @@ use native.Mathlib.Omega.{arith}
 use lib.Dec.{leb}
 use borrow.Author.Tests.{leb-true}
 use Rattle.masks.specs.Pick.{pick}
-use Rattle.grammar.specs.Grammar.{ranged, ordered, upTo, step, start, noCounts}
+use Rattle.grammar.specs.Grammar.{ranged, ordered, upTo, advance, start, noCounts}
 use Rattle.grammar.specs.declared.grammar.Expected.{Expected}
 use Rattle.grammar.specs.declared.grammar.State.{State}
 use Rattle.grammar.specs.declared.grammar.State.the-variants.{Wants, Complete, OutOfRange, OutOfOrder}
-use Rattle.sheet.specs.Judge.{Item, num, cut, ill, meets, judge, refusal, numbers, ofNumbers, ofBytes, Accepted, AcceptedBytes}
+use Rattle.sheet.specs.Sources.{Item, num, cut, ill, meets, refusalFrom, refusal, numbers, ofNumbers, ofBytes, Accepted, AcceptedBytes}
 use Rattle.sheet.specs.Turns.{stays}
 
 -- ---- a test on the way to acceptance
 
-pub ranged-in : (t : Bool) (next : State) (ds : List ℕ) (is : List Item) → judge (ranged t next) ds is ≡ 0 → (t ≡ true) × (judge next ds is ≡ 0)
+pub ranged-in : (t : Bool) (next : State) (ds : List ℕ) (is : List Item) → refusalFrom (ranged t next) ds is ≡ 0 → (t ≡ true) × (refusalFrom next ds is ≡ 0)
 unfolding pick
 ranged-in true next ds is e = (refl, e)
 ranged-in false next ds is e = absurd (omega (arith, e, stays OutOfRange ds 3 is (λ f. refl) (λ z. refl)))
 
-pub ordered-in : (t : Bool) (next : State) (ds : List ℕ) (is : List Item) → judge (ordered t next) ds is ≡ 0 → (t ≡ true) × (judge next ds is ≡ 0)
+pub ordered-in : (t : Bool) (next : State) (ds : List ℕ) (is : List Item) → refusalFrom (ordered t next) ds is ≡ 0 → (t ≡ true) × (refusalFrom next ds is ≡ 0)
 unfolding pick
 ordered-in true next ds is e = (refl, e)
 ordered-in false next ds is e = absurd (omega (arith, e, stays OutOfOrder ds 4 is (λ f. refl) (λ z. refl)))
 
-pub pick-in : (t : Bool) (a b : State) (ds : List ℕ) (is : List Item) → judge (pick t a b) ds is ≡ 0
-    → ((t ≡ true) × (judge a ds is ≡ 0)) ⊎ ((t ≡ false) × (judge b ds is ≡ 0))
+pub pick-in : (t : Bool) (a b : State) (ds : List ℕ) (is : List Item) → refusalFrom (pick t a b) ds is ≡ 0
+    → ((t ≡ true) × (refusalFrom a ds is ≡ 0)) ⊎ ((t ≡ false) × (refusalFrom b ds is ≡ 0))
 unfolding pick
 pick-in true a b ds is e = inl (refl, e)
 pick-in false a b ds is e = inr (refl, e)
@@ -49,12 +49,12 @@ accepted-meets Complete f q = absurd (omega arith)
 accepted-meets OutOfRange f q = absurd (omega arith)
 accepted-meets OutOfOrder f q = absurd (omega arith)
 
-only-numbers : (st : State) (ds : List ℕ) (is : List Item) → judge st ds is ≡ 0 → is ≡ ofNumbers (numbers is)
-unfolding judge numbers
+only-numbers : (st : State) (ds : List ℕ) (is : List Item) → refusalFrom st ds is ≡ 0 → is ≡ ofNumbers (numbers is)
+unfolding refusalFrom numbers
 only-numbers st ds [] q = refl
 only-numbers st ds (num x ∷ is) q =
     let r = accepted-meets st _ q in
-    ap (λ (js : List Item). num x ∷ js) (only-numbers (step (r .0) (r .1) ds x .0) (step (r .0) (r .1) ds x .1) is (r .2))
+    ap (λ (js : List Item). num x ∷ js) (only-numbers (advance (r .0) (r .1) ds x .0) (advance (r .0) (r .1) ds x .1) is (r .2))
 only-numbers st ds (cut ∷ is) q = let r = accepted-meets st _ q .2 in absurd (omega arith)
 only-numbers st ds (ill ∷ is) q = let r = accepted-meets st _ q .2 in absurd (omega arith)
 

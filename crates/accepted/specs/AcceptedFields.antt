@@ -11,8 +11,8 @@ use lib.Seq.{getD-set-same, getD-set-other}
 use borrow.Author.Tests.{leb-true, ltb-true, ltb-false, eqb-true, eqb-false}
 use Rattle.masks.specs.Pick.{pick}
 use Rattle.limits.specs.Limits.{mostSettings, largestSetting}
-use Rattle.grammar.specs.Grammar.{step, afterField, afterSetting}
-use Rattle.sheet.specs.Judge.{judge, ofNumbers}
+use Rattle.grammar.specs.Grammar.{advance, afterField, afterSetting}
+use Rattle.sheet.specs.Sources.{refusalFrom, ofNumbers}
 use Rattle.accepted.specs.Sheets.{fieldsNumbers, Rises, rises-none, rises-one, FieldRight}
 use Rattle.accepted.specs.Accept.{ranged-in, ordered-in, pick-in, upTo-le}
 use Rattle.grammar.specs.declared.grammar.Expected.the-variants.{Count, Setting, Reach}
@@ -24,11 +24,11 @@ pub record SettingsIn (f left floor n : ℕ) (ds ys : List ℕ) : Type 0 where
   pub split : ys ≡ settings ++ rest
   pub size : length settings ≡ suc left
   pub rise : Rises floor settings
-  pub on : judge (afterField n f) ds (ofNumbers rest) ≡ 0
+  pub on : refusalFrom (afterField n f) ds (ofNumbers rest) ≡ 0
 
 settings-one : (f left floor n x : ℕ) (ds ys : List ℕ) → floor ≤ x → x ≤ largestSetting
-    → ((l : ℕ) → judge (Wants n (Setting f l (x + 1))) ds (ofNumbers ys) ≡ 0 → SettingsIn f l (x + 1) n ds ys)
-    → judge (afterSetting n f left (x + 1)) ds (ofNumbers ys) ≡ 0 → SettingsIn f left floor n ds (x ∷ ys)
+    → ((l : ℕ) → refusalFrom (Wants n (Setting f l (x + 1))) ds (ofNumbers ys) ≡ 0 → SettingsIn f l (x + 1) n ds ys)
+    → refusalFrom (afterSetting n f left (x + 1)) ds (ofNumbers ys) ≡ 0 → SettingsIn f left floor n ds (x ∷ ys)
 settings-one f left floor n x ds ys h k ih e =
     ⊎-elim
     (λ r. record {
@@ -49,8 +49,8 @@ settings-one f left floor n x ds ys h k ih e =
     })
     (pick-in (eqb left 0) (afterField n f) (Wants n (Setting f (left - 1) (x + 1))) ds (ofNumbers ys) e)
 
-settings-in : (ys : List ℕ) (f left floor n : ℕ) (ds : List ℕ) → judge (Wants n (Setting f left floor)) ds (ofNumbers ys) ≡ 0 → SettingsIn f left floor n ds ys
-unfolding judge step
+settings-in : (ys : List ℕ) (f left floor n : ℕ) (ds : List ℕ) → refusalFrom (Wants n (Setting f left floor)) ds (ofNumbers ys) ≡ 0 → SettingsIn f left floor n ds ys
+unfolding refusalFrom advance
 settings-in [] f left floor n ds e = absurd (omega arith)
 settings-in (x ∷ ys) f left floor n ds e =
     let r = ranged-in (leb x largestSetting) _ ds (ofNumbers ys) e in
@@ -66,9 +66,9 @@ pub record FieldsIn (f m n : ℕ) (ds ys : List ℕ) : Type 0 where
   pub right : (k : ℕ) → k < length fields → FieldRight (getD fields k [])
   pub before : (k : ℕ) → k < f → getD counts k 0 ≡ getD ds k 0
   pub after : (k : ℕ) → k < length fields → getD counts (f + k) 0 ≡ length (getD fields k [])
-  pub on : judge (Wants n Reach) counts (ofNumbers rest) ≡ 0
+  pub on : refusalFrom (Wants n Reach) counts (ofNumbers rest) ≡ 0
 
-fields-none : (f n : ℕ) (ds ys : List ℕ) → judge (Wants n Reach) ds (ofNumbers ys) ≡ 0 → FieldsIn f 0 n ds ys
+fields-none : (f n : ℕ) (ds ys : List ℕ) → refusalFrom (Wants n Reach) ds (ofNumbers ys) ≡ 0 → FieldsIn f 0 n ds ys
 unfolding fieldsNumbers
 fields-none f n ds ys e = record {
   fields = [];
@@ -109,8 +109,8 @@ fields-one f m n d ds ys h p q t u =
     after z e zero l = ap (λ (i : ℕ). getD (u .counts) i 0) (add-zero f) ∙ u .before f (omega arith) ∙ getD-set-same ds f d 0 h ∙ sym e
     after z e (suc k) l = ap (λ (i : ℕ). getD (u .counts) i 0) (let i : f + suc k ≡ f + 1 + k = omega arith in i) ∙ u .after k (omega arith)
 
-pub fields-in : (m f n : ℕ) (ds ys : List ℕ) → f + m ≡ n → n ≤ length ds → judge (pick (ltb f n) (Wants n (Count f)) (Wants n Reach)) ds (ofNumbers ys) ≡ 0 → FieldsIn f m n ds ys
-unfolding judge step
+pub fields-in : (m f n : ℕ) (ds ys : List ℕ) → f + m ≡ n → n ≤ length ds → refusalFrom (pick (ltb f n) (Wants n (Count f)) (Wants n Reach)) ds (ofNumbers ys) ≡ 0 → FieldsIn f m n ds ys
+unfolding refusalFrom advance
 fields-in zero f n ds ys h k e =
     ⊎-elim (λ r. absurd (omega (arith, ltb-true f n (r .0), h))) (λ r. fields-none f n ds ys (r .1)) (pick-in (ltb f n) (Wants n (Count f)) (Wants n Reach) ds (ofNumbers ys) e)
 fields-in (suc m) f n ds ys h k e =
@@ -118,8 +118,8 @@ fields-in (suc m) f n ds ys h k e =
     (λ r. absurd (omega (arith, ltb-false f n (r .0), h)))
     (pick-in (ltb f n) (Wants n (Count f)) (Wants n Reach) ds (ofNumbers ys) e)
   where
-    go : (ys : List ℕ) → judge (Wants n (Count f)) ds (ofNumbers ys) ≡ 0
-        → ((d : ℕ) (rest : List ℕ) → judge (afterField n f) (set ds f d) (ofNumbers rest) ≡ 0 → FieldsIn (f + 1) m n (set ds f d) rest)
+    go : (ys : List ℕ) → refusalFrom (Wants n (Count f)) ds (ofNumbers ys) ≡ 0
+        → ((d : ℕ) (rest : List ℕ) → refusalFrom (afterField n f) (set ds f d) (ofNumbers rest) ≡ 0 → FieldsIn (f + 1) m n (set ds f d) rest)
         → FieldsIn f (suc m) n ds ys
     go [] e ih = absurd (omega arith)
     go (d ∷ ys) e ih =

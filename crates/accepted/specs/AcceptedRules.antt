@@ -9,8 +9,8 @@ use lib.Dec.{ltb, leb, eqb}
 use lib.ListN.{length, getD}
 use borrow.Author.Tests.{leb-true, ltb-true, eqb-true, eqb-false}
 use Rattle.limits.specs.Limits.{largestSetting, lastKind}
-use Rattle.grammar.specs.Grammar.{step, afterRule, afterMask, afterKind, key, rising}
-use Rattle.sheet.specs.Judge.{judge, ofNumbers}
+use Rattle.grammar.specs.Grammar.{advance, afterRule, afterMask, afterKind, key, rising}
+use Rattle.sheet.specs.Sources.{refusalFrom, ofNumbers}
 use Rattle.accepted.specs.Sheets.{Rule, rulesNumbers, Below, below-none, below-one, RuleRight, Ruled, ruled-none, ruled-one}
 use Rattle.accepted.specs.Accept.{ranged-in, ordered-in, pick-in, both}
 use Rattle.grammar.specs.declared.grammar.Expected.the-variants.{First, Mask, Amount}
@@ -24,14 +24,14 @@ pub record ValuesIn (left floor n : ℕ) (ds ys : List ℕ) (P : List ℕ → Ty
   pub rest : List ℕ
   pub split : ys ≡ values ++ rest
   pub right : P values
-  pub on : judge (afterRule n left floor) ds (ofNumbers rest) ≡ 0
+  pub on : refusalFrom (afterRule n left floor) ds (ofNumbers rest) ≡ 0
 
 abbrev Masks : ℕ → ℕ → List ℕ → Type 0
 Masks size b values = (length values ≡ size) × Below b values
 
 masks-one : (left floor j more n x : ℕ) (ds ys : List ℕ) → x < 2 ^ getD ds j 0
-    → ((l : ℕ) → judge (Wants n (Mask left floor j l)) ds (ofNumbers ys) ≡ 0 → ValuesIn left floor n ds ys (Masks (suc l) (2 ^ getD ds j 0)))
-    → judge (afterMask n left floor j more) ds (ofNumbers ys) ≡ 0 → ValuesIn left floor n ds (x ∷ ys) (Masks (suc more) (2 ^ getD ds j 0))
+    → ((l : ℕ) → refusalFrom (Wants n (Mask left floor j l)) ds (ofNumbers ys) ≡ 0 → ValuesIn left floor n ds ys (Masks (suc l) (2 ^ getD ds j 0)))
+    → refusalFrom (afterMask n left floor j more) ds (ofNumbers ys) ≡ 0 → ValuesIn left floor n ds (x ∷ ys) (Masks (suc more) (2 ^ getD ds j 0))
 masks-one left floor j more n x ds ys h ih e =
     ⊎-elim
     (λ r. record {
@@ -50,16 +50,16 @@ masks-one left floor j more n x ds ys h ih e =
     })
     (pick-in (eqb more 0) (afterRule n left floor) (Wants n (Mask left floor j (more - 1))) ds (ofNumbers ys) e)
 
-masks-in : (ys : List ℕ) (left floor j more n : ℕ) (ds : List ℕ) → judge (Wants n (Mask left floor j more)) ds (ofNumbers ys) ≡ 0
+masks-in : (ys : List ℕ) (left floor j more n : ℕ) (ds : List ℕ) → refusalFrom (Wants n (Mask left floor j more)) ds (ofNumbers ys) ≡ 0
     → ValuesIn left floor n ds ys (Masks (suc more) (2 ^ getD ds j 0))
-unfolding judge step
+unfolding refusalFrom advance
 masks-in [] left floor j more n ds e = absurd (omega arith)
 masks-in (x ∷ ys) left floor j more n ds e =
     let r = ranged-in (ltb x (2 ^ getD ds j 0)) _ ds (ofNumbers ys) e in
     masks-one left floor j more n x ds ys (ltb-true x _ (r .0)) (λ l. masks-in ys left floor j l n ds) (r .1)
 
-amount-in : (ys : List ℕ) (left floor n : ℕ) (ds : List ℕ) → judge (Wants n (Amount left floor)) ds (ofNumbers ys) ≡ 0 → ValuesIn left floor n ds ys (Masks 1 (largestSetting + 1))
-unfolding judge step
+amount-in : (ys : List ℕ) (left floor n : ℕ) (ds : List ℕ) → refusalFrom (Wants n (Amount left floor)) ds (ofNumbers ys) ≡ 0 → ValuesIn left floor n ds ys (Masks 1 (largestSetting + 1))
+unfolding refusalFrom advance
 amount-in [] left floor n ds e = absurd (omega arith)
 amount-in (x ∷ ys) left floor n ds e =
     let r = ranged-in (leb x largestSetting) _ ds (ofNumbers ys) e in
@@ -72,10 +72,10 @@ pub record RuleIn (left floor n : ℕ) (ds ys : List ℕ) : Type 0 where
   pub split : ys ≡ rule .i ∷ rule .j ∷ rule .kind ∷ (rule .values ++ rest)
   pub rise : floor ≤ key (rule .i) (rule .j)
   pub right : RuleRight n (dOf ds) rule
-  pub on : judge (afterRule n left (key (rule .i) (rule .j) + 1)) ds (ofNumbers rest) ≡ 0
+  pub on : refusalFrom (afterRule n left (key (rule .i) (rule .j) + 1)) ds (ofNumbers rest) ≡ 0
 
 rule-of : (left floor n i j kind : ℕ) (ds ys : List ℕ) → i < j → j < n → floor ≤ key i j → kind ≤ lastKind → 1 ≤ getD ds i 0
-    → judge (afterKind n left (key i j + 1) j (getD ds i 0) kind) ds (ofNumbers ys) ≡ 0 → RuleIn left floor n ds (i ∷ j ∷ kind ∷ ys)
+    → refusalFrom (afterKind n left (key i j + 1) j (getD ds i 0) kind) ds (ofNumbers ys) ≡ 0 → RuleIn left floor n ds (i ∷ j ∷ kind ∷ ys)
 rule-of left floor n i j kind ds ys a b c d s e =
     ⊎-elim
     (λ r. let t = masks-in ys left (key i j + 1) j (getD ds i 0 - 1) n ds (r .1) in record {
@@ -99,8 +99,8 @@ rule-of left floor n i j kind ds ys a b c d s e =
 rising-le : (i j floor : ℕ) → rising i j floor ≡ true → (i < j) × (floor ≤ key i j)
 rising-le i j floor e = let b = both (ltb i j) (leb floor (key i j)) e in (ltb-true i j (b .0), leb-true floor (key i j) (b .1))
 
-rule-in : (ys : List ℕ) (left floor n : ℕ) (ds : List ℕ) → ((k : ℕ) → k < n → 1 ≤ getD ds k 0) → judge (Wants n (First left floor)) ds (ofNumbers ys) ≡ 0 → RuleIn left floor n ds ys
-unfolding judge step
+rule-in : (ys : List ℕ) (left floor n : ℕ) (ds : List ℕ) → ((k : ℕ) → k < n → 1 ≤ getD ds k 0) → refusalFrom (Wants n (First left floor)) ds (ofNumbers ys) ≡ 0 → RuleIn left floor n ds ys
+unfolding refusalFrom advance
 rule-in [] left floor n ds h e = absurd (omega arith)
 rule-in (i ∷ []) left floor n ds h e = let r = ranged-in (ltb i n) _ ds [] e .1 in absurd (omega arith)
 rule-in (i ∷ j ∷ []) left floor n ds h e =
@@ -122,12 +122,12 @@ pub record RulesIn (left floor n : ℕ) (ds ys : List ℕ) : Type 0 where
   pub size : length rules ≡ left
   pub ruled : Ruled n (dOf ds) floor rules
 
-end-in : (ys : List ℕ) (n : ℕ) (ds : List ℕ) → judge Complete ds (ofNumbers ys) ≡ 0 → ys ≡ []
-unfolding judge step
+end-in : (ys : List ℕ) (n : ℕ) (ds : List ℕ) → refusalFrom Complete ds (ofNumbers ys) ≡ 0 → ys ≡ []
+unfolding refusalFrom advance
 end-in [] n ds e = refl
 end-in (x ∷ ys) n ds e = absurd (omega arith)
 
-pub rules-in : (left floor n : ℕ) (ds ys : List ℕ) → ((k : ℕ) → k < n → 1 ≤ getD ds k 0) → judge (afterRule n left floor) ds (ofNumbers ys) ≡ 0 → RulesIn left floor n ds ys
+pub rules-in : (left floor n : ℕ) (ds ys : List ℕ) → ((k : ℕ) → k < n → 1 ≤ getD ds k 0) → refusalFrom (afterRule n left floor) ds (ofNumbers ys) ≡ 0 → RulesIn left floor n ds ys
 unfolding rulesNumbers
 rules-in zero floor n ds ys h e =
     ⊎-elim (λ r. record { rules = []; split = end-in ys n ds (r .1); size = refl; ruled = ruled-none })
@@ -137,7 +137,7 @@ rules-in (suc left) floor n ds ys h e =
     ⊎-elim (λ r. absurd (omega (arith, eqb-true (suc left) 0 (r .0))))
     (λ r.
     let l : left ≡ suc left - 1 = omega arith in
-    let t = rule-in ys left floor n ds h (ap (λ (k : ℕ). judge (Wants n (First k floor)) ds (ofNumbers ys)) l ∙ r .1) in
+    let t = rule-in ys left floor n ds h (ap (λ (k : ℕ). refusalFrom (Wants n (First k floor)) ds (ofNumbers ys)) l ∙ r .1) in
     let u = rules-in left (key (t .rule .i) (t .rule .j) + 1) n ds (t .rest) h (t .on) in
     record {
       rules = t .rule ∷ u .rules;

@@ -10,8 +10,8 @@ use lib.ListN.{length, getD}
 use borrow.Author.Tests.{lt-ltb, leb-true}
 use Rattle.masks.specs.Pick.{pick-true}
 use Rattle.limits.specs.Limits.{mostFields, wholeReach, mostRules}
-use Rattle.grammar.specs.Grammar.{step, noCounts, afterRule}
-use Rattle.sheet.specs.Judge.{judge, ofNumbers, Accepted}
+use Rattle.grammar.specs.Grammar.{advance, noCounts, afterRule}
+use Rattle.sheet.specs.Sources.{refusalFrom, ofNumbers, Accepted}
 use Rattle.accepted.specs.Sheets.{Rule, fieldsNumbers, sheetNumbers, ValuesRight, Ruled, ruled-none, ruled-one, IsSheet}
 use Rattle.accepted.specs.Accept.{ranged-in, upTo-le}
 use Rattle.grammar.specs.declared.grammar.Expected.the-variants.{Count, Reach}
@@ -33,7 +33,7 @@ ruled-same n floor d d′ rs h (ruled-one {r = r} {rs = ts} l g t) =
     (ruled-same n _ d d′ ts h t)
 
 sheet-of : (n reach e : ℕ) (ys zs : List ℕ) → 1 ≤ n → n ≤ mostFields → (t : FieldsIn 0 n n noCounts ys) → t .rest ≡ reach ∷ e ∷ zs
-    → 1 ≤ reach → reach ≤ wholeReach → e ≤ mostRules → judge (afterRule n e 0) (t .counts) (ofNumbers zs) ≡ 0 → IsSheet (n ∷ ys)
+    → 1 ≤ reach → reach ≤ wholeReach → e ≤ mostRules → refusalFrom (afterRule n e 0) (t .counts) (ofNumbers zs) ≡ 0 → IsSheet (n ∷ ys)
 unfolding sheetNumbers
 sheet-of n reach e ys zs p q t z a b c on =
     let u = rules-in e 0 n (t .counts) zs (λ k h. rw (same k h) (t .right k (rw (t .size) h) .some)) on in
@@ -56,7 +56,7 @@ sheet-of n reach e ys zs p q t z a b c on =
     same k h = ap (λ (i : ℕ). getD (t .counts) i 0) (sym (zero-add k)) ∙ t .after k (rw (t .size) h)
 
 pub sheet-in : (xs : List ℕ) → Accepted xs → IsSheet xs
-unfolding judge step
+unfolding refusalFrom advance
 sheet-in [] e = absurd (omega arith)
 sheet-in (n ∷ ys) e =
     let r = ranged-in _ (Wants n (Count 0)) noCounts (ofNumbers ys) e in
@@ -64,7 +64,7 @@ sheet-in (n ∷ ys) e =
     let t = fields-in n 0 n noCounts ys (zero-add n) (b .1) (rw (pick-true (ltb 0 n) (Wants n (Count 0)) (Wants n Reach) (lt-ltb 0 n (b .0))) (r .1)) in
     go (b .0) (b .1) t (t .rest) refl (t .on)
   where
-    go : 1 ≤ n → n ≤ mostFields → (t : FieldsIn 0 n n noCounts ys) → (zs : List ℕ) → t .rest ≡ zs → judge (Wants n Reach) (t .counts) (ofNumbers zs) ≡ 0 → IsSheet (n ∷ ys)
+    go : 1 ≤ n → n ≤ mostFields → (t : FieldsIn 0 n n noCounts ys) → (zs : List ℕ) → t .rest ≡ zs → refusalFrom (Wants n Reach) (t .counts) (ofNumbers zs) ≡ 0 → IsSheet (n ∷ ys)
     go p q t [] z on = absurd (omega arith)
     go p q t (reach ∷ []) z on = let r = ranged-in _ _ (t .counts) [] on .1 in absurd (omega arith)
     go p q t (reach ∷ k ∷ zs) z on =

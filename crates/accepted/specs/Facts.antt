@@ -7,7 +7,7 @@ use native.Mathlib.Omega.{arith}
 use lib.ListN.{length, getD}
 use Rattle.limits.specs.Limits.{mostFields, mostSettings, largestSetting, wholeReach, mostRules, lastKind}
 use Rattle.grammar.specs.Grammar.{key}
-use Rattle.sheet.specs.Judge.{Accepted}
+use Rattle.sheet.specs.Sources.{Accepted}
 use Rattle.accepted.specs.Sheets.{Rule, Sheet, Rises, rises-none, rises-one, Below, below-none, below-one, RuleRight, Ruled, ruled-none, ruled-one, counted, IsSheet}
 use Rattle.accepted.specs.AcceptedSheet.{sheet-in}
 use Rattle.accepted.specs.Parts.{RuleAt, rule-next, fieldStart, fieldsOf, countOf, settingOf, reachOf, rulesOf, ruleStart, firstOf, secondOf, kindOf, valueOf, valuesAt}

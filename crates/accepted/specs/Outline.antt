@@ -15,7 +15,7 @@ use Rattle.masks.specs.Bits.{bit, bit-of-zero}
 use Rattle.masks.specs.Masks.{maskOf, bit-maskOf, maskOf-all}
 use Rattle.masks.specs.Words.{one-shl}
 use Rattle.masks.specs.Sets.{has, pad, getD-pad}
-use Rattle.sheet.specs.Judge.{Accepted}
+use Rattle.sheet.specs.Sources.{Accepted}
 use Rattle.accepted.specs.declared.outline.Outline.{Outline}
 use Rattle.accepted.specs.Lists.{tabulate, getD-tabulate, tabulate-past, Filling, filling-first, filling-next, filling-last}
 use Rattle.accepted.specs.Parts.{fieldsOf, countOf, reachOf}

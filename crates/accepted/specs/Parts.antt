@@ -8,7 +8,7 @@ use lib.Dec.{eqb}
 use lib.ListN.{getD}
 use borrow.Author.Tests.{eq-eqb, ne-eqb}
 use Rattle.masks.specs.Pick.{pick, pick-true, pick-false}
-use Rattle.sheet.specs.Judge.{Accepted}
+use Rattle.sheet.specs.Sources.{Accepted}
 use Rattle.accepted.specs.Kinds.{allows}
 
 -- the place of field f's count; its settings stand after it

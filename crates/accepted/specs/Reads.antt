@@ -10,7 +10,7 @@ use lib.Seq.{take-at}
 use borrow.Author.Tests.{eq-eqb, eqb-true}
 use Rattle.masks.specs.Pick.{pick, pick-true, pick-false}
 use Rattle.limits.specs.Limits.{mostNumbers}
-use Rattle.sheet.specs.Judge.{refusal, numbers, ofBytes, Accepted, Gives, Outcome, giving, refusing, reading}
+use Rattle.sheet.specs.Sources.{refusal, numbers, ofBytes, Accepted, Gives, Produced, giving, refusing, reading}
 use Rattle.sheet.specs.declared.answer.Answer.{Answer}
 use Rattle.accepted.specs.Accept.{bytes-accepted}
 use Rattle.accepted.specs.Theorems.{enough-room}
@@ -28,17 +28,17 @@ module _ (sheet list : List ℕ) (room : mostNumbers ≤ length list) (r : Answe
     not-read = go (eqb (refusal (ofBytes sheet)) 0) refl
       where
         go : (t : Bool) → eqb (refusal (ofBytes sheet)) 0 ≡ t → eqb (refusal (ofBytes sheet)) 0 ≡ false
-        go true e = absurd (n (ap (λ (a : Answer). a .number) (g .answers ∙ ap (λ (o : Outcome). o .answer) (read-is true e ∙ pick-true _ _ _ refl))))
+        go true e = absurd (n (ap (λ (a : Answer). a .number) (g .answers ∙ ap (λ (o : Produced). o .answer) (read-is true e ∙ pick-true _ _ _ refl))))
         go false e = e
 
     given : reading sheet list ≡ refusing (refusal (ofBytes sheet)) list
     given = read-is false not-read ∙ pick-false _ _ _ refl
 
     pub read-refused : (r .number ≡ refusal (ofBytes sheet)) × (eqb (refusal (ofBytes sheet)) 0 ≡ false)
-    read-refused = (ap (λ (a : Answer). a .number) (g .answers ∙ ap (λ (o : Outcome). o .answer) given), not-read)
+    read-refused = (ap (λ (a : Answer). a .number) (g .answers ∙ ap (λ (o : Produced). o .answer) given), not-read)
 
     pub read-none : r .length ≡ 0
-    read-none = ap (λ (a : Answer). a .length) (g .answers ∙ ap (λ (o : Outcome). o .answer) given) ∙ pick-false _ _ _ not-read
+    read-none = ap (λ (a : Answer). a .length) (g .answers ∙ ap (λ (o : Produced). o .answer) given) ∙ pick-false _ _ _ not-read
 
   -- the sheet is read
   module _ (z : r .number ≡ 0) where
@@ -47,21 +47,21 @@ module _ (sheet list : List ℕ) (room : mostNumbers ≤ length list) (r : Answe
       where
         go : (t : Bool) → eqb (refusal (ofBytes sheet)) 0 ≡ t → refusal (ofBytes sheet) ≡ 0
         go true e = eqb-true _ 0 e
-        go false e = sym (ap (λ (a : Answer). a .number) (g .answers ∙ ap (λ (o : Outcome). o .answer) (read-is false e ∙ pick-false _ _ _ refl))) ∙ z
+        go false e = sym (ap (λ (a : Answer). a .number) (g .answers ∙ ap (λ (o : Produced). o .answer) (read-is false e ∙ pick-false _ _ _ refl))) ∙ z
 
     gave : reading sheet list ≡ giving xs list
     gave = read-is true (eq-eqb _ 0 read-accepted) ∙ pick-true _ _ _ refl
 
     count-is : r .length ≡ length xs
     unfolding pick
-    count-is = ap (λ (a : Answer). a .length) (g .answers ∙ ap (λ (o : Outcome). o .answer) gave)
+    count-is = ap (λ (a : Answer). a .length) (g .answers ∙ ap (λ (o : Produced). o .answer) gave)
 
     -- the sheet's numbers stand at the front of the list
     pub read-front : take (r .length) front ≡ xs
-    read-front = rw (g .outputs ∙ ap (λ (o : Outcome). o .output) gave) (take-at xs _ (r .length) (sym count-is))
+    read-front = rw (g .outputs ∙ ap (λ (o : Produced). o .output) gave) (take-at xs _ (r .length) (sym count-is))
 
     pub read-ends : r .length ≤ length front
-    read-ends = rw (g .outputs ∙ ap (λ (o : Outcome). o .output) gave) (simp length-append (omega (arith, count-is)))
+    read-ends = rw (g .outputs ∙ ap (λ (o : Produced). o .output) gave) (simp length-append (omega (arith, count-is)))
 
     pub front-accepted : Accepted (take (r .length) front)
     front-accepted = rw read-front (bytes-accepted sheet read-accepted)

@@ -2,11 +2,11 @@
 use mathlib.Core.List.{List, [], _∷_}
 use Prim.Native.Nat.{ℕ, _≤_}
 use native.Mathlib.Omega.{arith}
-use Rattle.grammar.specs.Grammar.{step, start, noCounts, atEnd}
+use Rattle.grammar.specs.Grammar.{advance, start, noCounts, atEnd}
 use Rattle.grammar.specs.declared.grammar.Expected.{Expected}
 use Rattle.grammar.specs.declared.grammar.State.{State}
 use Rattle.grammar.specs.declared.grammar.State.the-variants.{Wants, Complete, OutOfRange, OutOfOrder}
-use Rattle.sheet.specs.Judge.{Item, num, cut, ill, meets, judge, refusal}
+use Rattle.sheet.specs.Sources.{Item, num, cut, ill, meets, refusalFrom, refusal}
 
 meets-few : (st : State) (f : ℕ → Expected → ℕ) → ((n : ℕ) (e : Expected) → f n e ≤ 5) → meets st f ≤ 5
 meets-few (Wants n e) f h = h n e
@@ -20,12 +20,12 @@ end-few Complete = omega arith
 end-few OutOfRange = omega arith
 end-few OutOfOrder = omega arith
 
-judge-few : (st : State) (ds : List ℕ) (is : List Item) → judge st ds is ≤ 5
-unfolding judge
-judge-few st ds [] = end-few st
-judge-few st ds (num x ∷ is) = meets-few st _ (λ n e. judge-few (step n e ds x .0) (step n e ds x .1) is)
-judge-few st ds (cut ∷ is) = meets-few st _ (λ n e. omega arith)
-judge-few st ds (ill ∷ is) = meets-few st _ (λ n e. omega arith)
+refusalFrom-few : (st : State) (ds : List ℕ) (is : List Item) → refusalFrom st ds is ≤ 5
+unfolding refusalFrom
+refusalFrom-few st ds [] = end-few st
+refusalFrom-few st ds (num x ∷ is) = meets-few st _ (λ n e. refusalFrom-few (advance n e ds x .0) (advance n e ds x .1) is)
+refusalFrom-few st ds (cut ∷ is) = meets-few st _ (λ n e. omega arith)
+refusalFrom-few st ds (ill ∷ is) = meets-few st _ (λ n e. omega arith)
 
 pub refusal-few : (is : List Item) → refusal is ≤ 5
-refusal-few is = judge-few start noCounts is
+refusal-few is = refusalFrom-few start noCounts is

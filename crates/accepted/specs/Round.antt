@@ -14,7 +14,7 @@ use Rattle.masks.specs.Pick.{pick-true, pick-false}
 use Rattle.groups.specs.Groups.{groups, numberAt, encodeIn, encode, encode-some, encodeIn-last, encodeIn-suc, groups-number, groups-nothing, groups-empty}
 use Rattle.groups.specs.declared.groups.Number.{Number}
 use Rattle.groups.specs.declared.groups.Number.the-variants.{Value, Ended, IllFormed}
-use Rattle.sheet.specs.Judge.{Item, num, itemsFrom, ofBytes, ofNumbers, bytesOf}
+use Rattle.sheet.specs.Sources.{Item, num, itemsFrom, ofBytes, ofNumbers, bytesOf}
 use Rattle.sheet.specs.Items.{from-num, from-end, from-cut, from-ill, from-some}
 
 -- w times a number is w times its lowest group and 128 w times the others

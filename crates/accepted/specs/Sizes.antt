@@ -11,7 +11,7 @@ use lib.ListN.{length, getD, length-append}
 use borrow.Author.Tests.{ltb-true, ltb-false}
 use Rattle.groups.specs.Groups.{encode, size-1, size-2, size-3, size-4}
 use Rattle.limits.specs.Limits.{mostFields, mostSettings, largestSetting, mostBytes, mostNumbers}
-use Rattle.sheet.specs.Judge.{bytesOf, Accepted}
+use Rattle.sheet.specs.Sources.{bytesOf, Accepted}
 use Rattle.accepted.specs.Sheets.{Rule, Sheet, fieldsNumbers, rulesNumbers, sheetNumbers, Rises, rises-none, rises-one, Below, below-none, below-one, FieldRight, ValuesRight, Ruled, ruled-none, ruled-one, Right, counted}
 use Rattle.accepted.specs.AcceptedSheet.{sheet-in}
 

@@ -9,7 +9,7 @@ use lib.ListN.{length, getD}
 use borrow.Author.Tests.{le-leb, eq-eqb, eqb-true}
 use Rattle.masks.specs.Pick.{pick, pick-true, pick-false}
 use Rattle.limits.specs.Limits.{mostBytes, mostNumbers}
-use Rattle.sheet.specs.Judge.{refusal, numbers, ofBytes, ofNumbers, bytesOf, Accepted, AcceptedBytes, outcome, refusing, giving, reading, writing}
+use Rattle.sheet.specs.Sources.{refusal, numbers, ofBytes, ofNumbers, bytesOf, Accepted, AcceptedBytes, produced, refusing, giving, reading, writing}
 use Rattle.accepted.specs.Round.{numbers-bytes, bytes-numbers}
 use Rattle.accepted.specs.Accept.{accepted-numbers, bytes-accepted}
 use Rattle.accepted.specs.Sheets.{IsSheet}
@@ -45,20 +45,20 @@ same-bytes : (s : List ℕ) → ((k : ℕ) → getD s k 0 < 256) → AcceptedByt
 same-bytes s h e = sym (bytes-numbers (numbers (ofBytes s)) s h (accepted-numbers (ofBytes s) e))
 
 -- a source that is accepted, over an output with room for its values
-given : (number : ℕ) (values before : List ℕ) → number ≡ 0 → length values ≤ length before → outcome number values before ≡ giving values before
+given : (number : ℕ) (values before : List ℕ) → number ≡ 0 → length values ≤ length before → produced number values before ≡ giving values before
 given number values before z h = pick-true _ _ _ (eq-eqb number 0 z) ∙ pick-true _ _ _ (le-leb (length values) (length before) h)
 
 -- Written, then read: the same numbers, for every accepted list.
 pub written-read : (xs before : List ℕ) → Accepted xs → length xs ≤ length before → reading (bytesOf xs) before ≡ giving xs before
 written-read xs before e h =
-    ap₂ (λ (number : ℕ) (values : List ℕ). outcome number values before) (ap refusal (same-numbers xs e)) (ap numbers (same-numbers xs e) ∙ numbers-of xs)
+    ap₂ (λ (number : ℕ) (values : List ℕ). produced number values before) (ap refusal (same-numbers xs e)) (ap numbers (same-numbers xs e) ∙ numbers-of xs)
     ∙ given _ xs before e h
 
 -- Read, then written: the same bytes, for every accepted sheet.
 pub read-written : (s before : List ℕ) → ((k : ℕ) → getD s k 0 < 256) → AcceptedBytes s → length s ≤ length before
     → writing (numbers (ofBytes s)) before ≡ giving s before
 read-written s before h e l =
-    ap (λ (values : List ℕ). outcome (refusal (ofNumbers (numbers (ofBytes s)))) values before) (same-bytes s h e)
+    ap (λ (values : List ℕ). produced (refusal (ofNumbers (numbers (ofBytes s)))) values before) (same-bytes s h e)
     ∙ given _ s before (bytes-accepted s e) l
 
 -- An accepted sheet has at most 29,080 bytes and 8,055 numbers, whichever of the two it is given as.

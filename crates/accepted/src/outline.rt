@@ -4,7 +4,7 @@ ghost use Prim.Native.Nat.{_≤_};
 ghost use Rattle.limits.specs.Limits.{mostSettings};
 ghost use Rattle.masks.specs.Masks.{maskOf};
 ghost use mathlib.Core.Bool.{true};
-ghost use Rattle.sheet.specs.Judge.{Accepted};
+ghost use Rattle.sheet.specs.Sources.{Accepted};
 ghost use Rattle.accepted.specs.Outline.{outlineOf};
 use super::parts;
 use limits::FIELDS;

@@ -2,7 +2,7 @@
 ghost use mathlib.Core.Path.{_≡_};
 ghost use Prim.Native.Nat.{_+_, _<_, _≤_};
 ghost use lib.ListN.{length, getD};
-ghost use Rattle.sheet.specs.Judge.{Accepted};
+ghost use Rattle.sheet.specs.Sources.{Accepted};
 ghost use Rattle.accepted.specs.Parts.{Field, FieldAt, RuleAt, fieldsOf, fieldStart, countOf, settingOf, reachOf, rulesOf, ruleStart, firstOf, secondOf, kindOf, numberOf};
 
 fn at(numbers: &[u32], place: usize) -> u32

@@ -6,7 +6,7 @@ use Prim.Native.Nat.{ℕ}
 use lib.Dec.{eqb}
 use lib.ListN.{length, drop}
 use Rattle.masks.specs.Pick.{pick}
-use Rattle.sheet.specs.Judge.{numbers, ofBytes}
+use Rattle.sheet.specs.Sources.{numbers, ofBytes}
 use Rattle.ledger.specs.declared.Call.{Call}
 use Rattle.ledger.specs.Ledger.{Given, offersOf, step, spaceShort, number}
 use Rattle.session.specs.declared.Session.{Session}

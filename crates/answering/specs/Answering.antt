@@ -11,7 +11,7 @@ use Rattle.limits.specs.Limits.{mostNumbers, offersWords, rowsWords, memoryWord
 use Rattle.limits.specs.Refusals.{TOO-SHORT, WIPED-OUT}
 use Rattle.masks.specs.Tests.{never}
 use Rattle.masks.specs.Pick.{pick, pick-true, pick-false}
-use Rattle.sheet.specs.Judge.{refusal, numbers, ofBytes, Accepted}
+use Rattle.sheet.specs.Sources.{refusal, numbers, ofBytes, Accepted}
 use Rattle.accepted.specs.declared.outline.Outline.{Outline}
 use Rattle.accepted.specs.Accept.{bytes-accepted}
 use Rattle.accepted.specs.Outline.{outlineOf}

@@ -4,7 +4,7 @@ use mathlib.Core.List.{List}
 use Prim.Native.Nat.{ℕ, _≤_}
 use lib.ListN.{length, take}
 use Rattle.limits.specs.Limits.{mostNumbers}
-use Rattle.sheet.specs.Judge.{refusal, numbers, ofBytes, Gives, reading}
+use Rattle.sheet.specs.Sources.{refusal, numbers, ofBytes, Gives, reading}
 use Rattle.sheet.specs.declared.answer.Answer.{Answer}
 use Rattle.accepted.specs.declared.outline.Outline.{Outline}
 use Rattle.accepted.specs.Outline.{outlineOf}

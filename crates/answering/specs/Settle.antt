@@ -20,7 +20,7 @@ use Rattle.masks.specs.Settings.{empty, someEmpty}
 use Rattle.masks.specs.Pick.{pick, pick-true, pick-false}
 use Rattle.consistency.specs.Offers.{offers, offers-is, wipedOut}
 use Rattle.consistency.specs.Padding.{offers-pad}
-use Rattle.sheet.specs.Judge.{Accepted}
+use Rattle.sheet.specs.Sources.{Accepted}
 use Rattle.accepted.specs.declared.outline.Outline.{Outline}
 use Rattle.accepted.specs.Lists.{length-tabulate, getD-tabulate}
 use Rattle.accepted.specs.Parts.{fieldsOf, countOf, reachOf}

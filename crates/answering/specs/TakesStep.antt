@@ -10,7 +10,7 @@ use borrow.Author.Tests.{eqb-false, ltb-true}
 use Rattle.limits.specs.Limits.{mostFields, mostSettings, mostEvents}
 use Rattle.masks.specs.Tests.{never, and-l, and-r}
 use Rattle.masks.specs.Sets.{has}
-use Rattle.sheet.specs.Judge.{Accepted}
+use Rattle.sheet.specs.Sources.{Accepted}
 use Rattle.accepted.specs.declared.outline.Outline.{Outline}
 use Rattle.accepted.specs.Parts.{fieldsOf, countOf}
 use Rattle.accepted.specs.Facts.{facts}

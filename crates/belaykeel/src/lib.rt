@@ -3,7 +3,7 @@
 ghost use Rattle.ledger.specs.declared.Call.{Call};
 ghost use Rattle.ledger.specs.Ledger.{CHOOSE, STRIKE, WITHDRAW-CHOICE, WITHDRAW-STRIKE, decides};
 ghost use Rattle.answering.specs.Answer.{spaces, Answers};
-ghost use Rattle.sheet.specs.Judge.{Gives, reading, writing};
+ghost use Rattle.sheet.specs.Sources.{Gives, reading, writing};
 use session::Session;
 use sheet::answer::Answer;
 

@@ -15,9 +15,9 @@ use Rattle.masks.specs.Pick.{pick}
 use Rattle.limits.specs.Limits.{mostFields, mostSettings, mostNumbers, offersWords}
 use Rattle.limits.specs.Refusals.{SURPLUS, OUT-OF-RANGE, OUT-OF-ORDER}
 use Rattle.groups.specs.Groups.{groups, numberAt, lastGroup, groups-number, groups-nothing, groups-empty}
-use Rattle.sheet.specs.Judge.{Item, num, cut, ill, judge, refusal, itemsFrom, ofBytes}
+use Rattle.sheet.specs.Sources.{Item, num, cut, ill, refusalFrom, refusal, itemsFrom, ofBytes}
 use Rattle.sheet.specs.Items.{from-num, from-cut, from-ill}
-use Rattle.grammar.specs.Grammar.{step, start, noCounts, upTo, ranged, ordered, afterField, afterRule, key}
+use Rattle.grammar.specs.Grammar.{advance, start, noCounts, upTo, ranged, ordered, afterField, afterRule, key}
 use Rattle.accepted.specs.Parts.{fieldsOf}
 use Rattle.accepted.specs.Theorems.{most-sheet-bytes}
 use Rattle.groups.specs.declared.groups.Number.{Number}
@@ -168,31 +168,31 @@ fits-ranged b t a ds p = fits-pick b t a OutOfRange ds p (λ e. tt)
 fits-ordered : (b : ℕ) (t : Bool) (a : State) (ds : List ℕ) → (t ≡ true → Fits b a ds) → Fits b (ordered t a) ds
 fits-ordered b t a ds p = fits-pick b t a OutOfOrder ds p (λ e. tt)
 
-fits-step : (b n : ℕ) (e : Expected) (ds : List ℕ) (x : ℕ) → Fits (suc b) (Wants n e) ds → Fits b (step n e ds x .0) (step n e ds x .1)
-unfolding step
-fits-step b n Fields ds x h = fits-ranged b _ _ ds (λ t. let u = up-to mostFields x t in (omega arith, omega arith, h .2))
-fits-step b n (Count f) ds x h =
+fits-advance : (b n : ℕ) (e : Expected) (ds : List ℕ) (x : ℕ) → Fits (suc b) (Wants n e) ds → Fits b (advance n e ds x .0) (advance n e ds x .1)
+unfolding advance
+fits-advance b n Fields ds x h = fits-ranged b _ _ ds (λ t. let u = up-to mostFields x t in (omega arith, omega arith, h .2))
+fits-advance b n (Count f) ds x h =
     fits-ranged b _ _ _ (λ t. let u = up-to mostSettings x t in let p = h .1 in (omega arith, p, low-set ds f x (h .2) (u .1)))
-fits-step b n (Setting f rest floor) ds x h =
+fits-advance b n (Setting f rest floor) ds x h =
     fits-ranged b _ _ ds (λ _. fits-ordered b _ _ ds (λ _.
     fits-pick b (eqb rest 0) (afterField n f) (Wants n (Setting f (rest - 1) (x + 1))) ds
     (λ t. fits-after-field b n f ds (omega arith) (h .2))
     (λ t. (omega (arith, eqb-false rest 0 t), h .1, h .2))))
-fits-step b n Reach ds x h = fits-ranged b _ _ ds (λ _. (omega arith, tt, h .2))
-fits-step b n Rules ds x h = fits-ranged b _ _ ds (λ t. fits-after-rule b n x 0 ds (omega (arith, leb-true x 276 t)) (h .2))
-fits-step b n (First rules floor) ds x h = fits-ranged b _ _ ds (λ _. (omega arith, tt, h .2))
-fits-step b n (Second rules floor i) ds x h = fits-ranged b _ _ ds (λ _. fits-ordered b _ _ ds (λ _. (omega arith, tt, h .2)))
-fits-step b n (Kind rules i j) ds x h =
+fits-advance b n Reach ds x h = fits-ranged b _ _ ds (λ _. (omega arith, tt, h .2))
+fits-advance b n Rules ds x h = fits-ranged b _ _ ds (λ t. fits-after-rule b n x 0 ds (omega (arith, leb-true x 276 t)) (h .2))
+fits-advance b n (First rules floor) ds x h = fits-ranged b _ _ ds (λ _. (omega arith, tt, h .2))
+fits-advance b n (Second rules floor i) ds x h = fits-ranged b _ _ ds (λ _. fits-ordered b _ _ ds (λ _. (omega arith, tt, h .2)))
+fits-advance b n (Kind rules i j) ds x h =
     fits-ranged b _ _ ds (λ _.
     fits-pick b (eqb x 0) (Wants n (Mask rules (key i j + 1) j (getD ds i 0 - 1))) (Wants n (Amount rules (key i j + 1))) ds
     (λ _. (omega (arith, h .2 i), tt, h .2))
     (λ _. (omega arith, tt, h .2)))
-fits-step b n (Mask rules floor j rest) ds x h =
+fits-advance b n (Mask rules floor j rest) ds x h =
     fits-ranged b _ _ ds (λ _.
     fits-pick b (eqb rest 0) (afterRule n rules floor) (Wants n (Mask rules floor j (rest - 1))) ds
     (λ _. fits-after-rule b n rules floor ds (omega arith) (h .2))
     (λ t. (omega (arith, eqb-false rest 0 t), tt, h .2)))
-fits-step b n (Amount rules floor) ds x h = fits-ranged b _ _ ds (λ _. fits-after-rule b n rules floor ds (omega arith) (h .2))
+fits-advance b n (Amount rules floor) ds x h = fits-ranged b _ _ ds (λ _. fits-after-rule b n rules floor ds (omega arith) (h .2))
 
 -- ---- the first bytes decide
 
@@ -215,8 +215,8 @@ past Complete = SURPLUS
 past OutOfRange = OUT-OF-RANGE
 past OutOfOrder = OUT-OF-ORDER
 
-judged-past : (st : State) (ds : List ℕ) (i : Item) (is : List Item) → Fits 0 st ds → judge st ds (i ∷ is) ≡ past st
-unfolding judge past
+judged-past : (st : State) (ds : List ℕ) (i : Item) (is : List Item) → Fits 0 st ds → refusalFrom st ds (i ∷ is) ≡ past st
+unfolding refusalFrom past
 judged-past (Wants n e) ds i is h = absurd (let l = some n e in let k = h .0 in omega arith)
 judged-past Complete ds (num x) is h = refl
 judged-past Complete ds cut is h = refl
@@ -228,12 +228,12 @@ judged-past OutOfOrder ds (num x) is h = refl
 judged-past OutOfOrder ds cut is h = refl
 judged-past OutOfOrder ds ill is h = refl
 
-judged-alike : (b : ℕ) (st : State) (ds : List ℕ) (is js : List Item) → Fits b st ds → Agree b is js → judge st ds is ≡ judge st ds js
-unfolding judge
+judged-alike : (b : ℕ) (st : State) (ds : List ℕ) (is js : List Item) → Fits b st ds → Agree b is js → refusalFrom st ds is ≡ refusalFrom st ds js
+unfolding refusalFrom
 judged-alike b st ds is js h alike = refl
 judged-alike b st ds is js h (more {i = i} {j = j} {is = is′} {js = js′}) = judged-past st ds i is′ h ∙ sym (judged-past st ds j js′ h)
 judged-alike b (Wants n e) ds is js h (then {b = c} {i = num x} {is = is′} {js = js′} a) =
-    judged-alike c (step n e ds x .0) (step n e ds x .1) is′ js′ (fits-step c n e ds x h) a
+    judged-alike c (advance n e ds x .0) (advance n e ds x .1) is′ js′ (fits-advance c n e ds x h) a
 judged-alike b Complete ds is js h (then {i = num x} a) = refl
 judged-alike b OutOfRange ds is js h (then {i = num x} a) = refl
 judged-alike b OutOfOrder ds is js h (then {i = num x} a) = refl

@@ -9,7 +9,7 @@ use lib.ListN.{length, take}
 use borrow.Author.Tests.{eq-eqb, ne-eqb, le-ltb}
 use Rattle.masks.specs.Pick.{pick-true, pick-false}
 use Rattle.limits.specs.Limits.{mostNumbers, offersWords, rowsWords, memoryWords}
-use Rattle.sheet.specs.Judge.{Accepted, Gives, refusal, numbers, ofBytes, reading, answered}
+use Rattle.sheet.specs.Sources.{Accepted, Gives, refusal, numbers, ofBytes, reading, answered}
 use Rattle.accepted.specs.Parts.{fieldsOf}
 use Rattle.accepted.specs.Reads.{read-refused, read-none, read-front, read-ends, front-accepted}
 use Rattle.sheet.specs.declared.answer.Answer.{Answer as Read}

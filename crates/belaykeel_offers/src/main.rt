@@ -4,7 +4,7 @@ ghost use mathlib.Core.Path.{_≡_};
 ghost use Prim.Native.Nat.{_<_, _≤_};
 ghost use lib.ListN.{length};
 ghost use Rattle.limits.specs.Limits.{mostFields, mostNumbers, offersWords};
-ghost use Rattle.sheet.specs.Judge.{Accepted};
+ghost use Rattle.sheet.specs.Sources.{Accepted};
 ghost use Rattle.accepted.specs.Parts.{Field, countOf};
 ghost use Rattle.belaykeel_offers.specs.Opening.{opening, Opened};
 use accepted::parts;

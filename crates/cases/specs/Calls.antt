@@ -2,7 +2,7 @@
 use mathlib.Core.List.{List, [], _∷_}
 use Prim.Native.Nat.{ℕ}
 use Rattle.limits.specs.Limits.{offersWords, rowsWords, memoryWords}
-use Rattle.sheet.specs.Judge.{numbers, ofBytes}
+use Rattle.sheet.specs.Sources.{numbers, ofBytes}
 use Rattle.accepted.specs.Lists.{tabulate}
 use Rattle.accepted.specs.Parts.{fieldsOf}
 use Rattle.ledger.specs.declared.Call.{Call}

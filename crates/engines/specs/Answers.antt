@@ -7,7 +7,7 @@ use lib.ListN.{getD}
 use Rattle.masks.specs.Sets.{has}
 use Rattle.consistency.specs.Problem.{Problem, in-allFields}
 use Rattle.consistency.specs.Neighbourhood.{neighbourhood, neighbourhood-bound, neighbourhood-self, neighbourhood-symmetric}
-use Rattle.sheet.specs.Judge.{Accepted}
+use Rattle.sheet.specs.Sources.{Accepted}
 use Rattle.accepted.specs.Parts.{fieldsOf, reachOf}
 use Rattle.accepted.specs.Facts.{facts}
 use Rattle.network.specs.declared.build.Network.{Network}

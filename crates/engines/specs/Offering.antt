@@ -6,7 +6,7 @@ use Prim.Native.Nat.{ℕ, _≤_, _<_}
 use lib.ListN.{length}
 use Rattle.limits.specs.Limits.{rowsWords, memoryWords}
 use Rattle.masks.specs.Sets.{has}
-use Rattle.sheet.specs.Judge.{Accepted}
+use Rattle.sheet.specs.Sources.{Accepted}
 use Rattle.accepted.specs.Parts.{fieldsOf}
 use Rattle.closing.specs.Asks.{Masks}
 use Rattle.engines.specs.Engine.{IsOrder}

@@ -54,17 +54,17 @@ rising i j floor = ltb i j && leb floor (key i j)
 
 -- What the number x leads to, with n fields, and the counts ds of the fields so far, with x where it is one. `more` and `rules` count what is
 -- still to come after x of its field or rule and of the rules; `floor` is the least that may come, one more than what came last.
-unfoldable pub step : (n : ℕ) → Expected → (ds : List ℕ) → (x : ℕ) → State × List ℕ
-step n Fields ds x = (ranged (upTo mostFields x) (Wants x (Count 0)), ds)
-step n (Count f) ds x = (ranged (upTo mostSettings x) (Wants n (Setting f (x - 1) 0)), set ds f x)
-step n (Setting f more floor) ds x = (ranged (leb x largestSetting) (ordered (leb floor x) (afterSetting n f more (x + 1))), ds)
-step n Reach ds x = (ranged (upTo wholeReach x) (Wants n Rules), ds)
-step n Rules ds x = (ranged (leb x mostRules) (afterRule n x 0), ds)
-step n (First rules floor) ds x = (ranged (ltb x n) (Wants n (Second rules floor x)), ds)
-step n (Second rules floor i) ds x = (ranged (ltb x n) (ordered (rising i x floor) (Wants n (Kind rules i x))), ds)
-step n (Kind rules i j) ds x = (ranged (leb x lastKind) (afterKind n rules (key i j + 1) j (getD ds i 0) x), ds)
-step n (Mask rules floor j more) ds x = (ranged (ltb x (2 ^ getD ds j 0)) (afterMask n rules floor j more), ds)
-step n (Amount rules floor) ds x = (ranged (leb x largestSetting) (afterRule n rules floor), ds)
+unfoldable pub advance : (n : ℕ) → Expected → (ds : List ℕ) → (x : ℕ) → State × List ℕ
+advance n Fields ds x = (ranged (upTo mostFields x) (Wants x (Count 0)), ds)
+advance n (Count f) ds x = (ranged (upTo mostSettings x) (Wants n (Setting f (x - 1) 0)), set ds f x)
+advance n (Setting f more floor) ds x = (ranged (leb x largestSetting) (ordered (leb floor x) (afterSetting n f more (x + 1))), ds)
+advance n Reach ds x = (ranged (upTo wholeReach x) (Wants n Rules), ds)
+advance n Rules ds x = (ranged (leb x mostRules) (afterRule n x 0), ds)
+advance n (First rules floor) ds x = (ranged (ltb x n) (Wants n (Second rules floor x)), ds)
+advance n (Second rules floor i) ds x = (ranged (ltb x n) (ordered (rising i x floor) (Wants n (Kind rules i x))), ds)
+advance n (Kind rules i j) ds x = (ranged (leb x lastKind) (afterKind n rules (key i j + 1) j (getD ds i 0) x), ds)
+advance n (Mask rules floor j more) ds x = (ranged (ltb x (2 ^ getD ds j 0)) (afterMask n rules floor j more), ds)
+advance n (Amount rules floor) ds x = (ranged (leb x largestSetting) (afterRule n rules floor), ds)
 
 -- before the first number, and the counts then
 abbrev pub start : State

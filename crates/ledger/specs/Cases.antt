@@ -16,8 +16,8 @@ use Rattle.consistency.specs.Closing.{partner, supportedBy, supported, closing}
 use Rattle.consistency.specs.Neighbourhood.{widen, fieldsWithin, neighbourhood}
 use Rattle.consistency.specs.Offers.{noneEmpty, passesOver, passes, offers, wipedOut}
 use Rattle.groups.specs.Groups.{groups, numberAt}
-use Rattle.grammar.specs.Grammar.{step as sheetStep}
-use Rattle.sheet.specs.Judge.{judge, numbers, items}
+use Rattle.grammar.specs.Grammar.{advance}
+use Rattle.sheet.specs.Sources.{refusalFrom, numbers, items}
 use Rattle.accepted.specs.Lists.{tabulate}
 use Rattle.accepted.specs.Parts.{fieldStart, ruleStart}
 use Rattle.accepted.specs.Outline.{outlineOf}
@@ -93,5 +93,5 @@ pub order-of-causes :
     -- 12 before 14; back is not refused by 12
     × (number (givenD 1 rising) (decides CHOOSE 0 0) full ≡ 12) × (number (givenD 1 rising) (decides CHOOSE 0 0) opened ≡ 14)
     × (number (givenD 1 rising) Back full ≡ 0)
-unfolding pastOf wipedOut offers passes passesOver noneEmpty neighbourhood fieldsWithin widen allFields closing supported supportedBy partner largest sweeps sweep someEmpty empty cut same count only countBits countIn someBit someIn keepBits keepIn maskOf bit has pad someBelow allBelow tabulate occurrences number first causes judged malformed noEngine isOrder spaceShort reversible allOnSheet onSheet inForce sameDecision without changeBy backed step otherChosen starts startSet offersOf wiped outlineOf judge numbers items numberAt groups pick sheetStep fieldStart ruleStart sheetProblem runs pairs
+unfolding pastOf wipedOut offers passes passesOver noneEmpty neighbourhood fieldsWithin widen allFields closing supported supportedBy partner largest sweeps sweep someEmpty empty cut same count only countBits countIn someBit someIn keepBits keepIn maskOf bit has pad someBelow allBelow tabulate occurrences number first causes judged malformed noEngine isOrder spaceShort reversible allOnSheet onSheet inForce sameDecision without changeBy backed step otherChosen starts startSet offersOf wiped outlineOf refusalFrom numbers items numberAt groups pick advance fieldStart ruleStart sheetProblem runs pairs
 order-of-causes = (refl, refl, refl, refl, refl, refl, refl, refl, refl, refl, refl, refl, refl, refl, refl, refl, refl, refl, refl, refl, refl, refl, refl)

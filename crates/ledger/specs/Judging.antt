@@ -10,7 +10,7 @@ use borrow.Author.Tests.{eqb-true, eqb-false, eq-eqb, ne-eqb, ltb-false}
 use Rattle.limits.specs.Limits.{mostEvents}
 use Rattle.limits.specs.Refusals.{TOO-SHORT, MALFORMED}
 use Rattle.masks.specs.Tests.{never}
-use Rattle.sheet.specs.Judge.{refusal, numbers, ofBytes}
+use Rattle.sheet.specs.Sources.{refusal, numbers, ofBytes}
 use Rattle.accepted.specs.declared.outline.Outline.{Outline}
 use Rattle.accepted.specs.Outline.{outlineOf}
 use Rattle.ledger.specs.declared.Call.{Call}

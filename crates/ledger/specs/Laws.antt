@@ -11,7 +11,7 @@ use Rattle.masks.specs.Tests.{never, bool-cases, iff-eq, and-l, and-r, and-by, 
 use Rattle.masks.specs.Masks.{keepBits, someBit}
 use Rattle.masks.specs.Pick.{pick, pick-true, pick-false}
 use Rattle.consistency.specs.Offers.{offers, wipedOut}
-use Rattle.sheet.specs.Judge.{numbers, ofBytes}
+use Rattle.sheet.specs.Sources.{numbers, ofBytes}
 use Rattle.accepted.specs.declared.outline.Outline.{Outline}
 use Rattle.accepted.specs.Lists.{tabulate}
 use Rattle.accepted.specs.Parts.{reachOf}
@@ -21,7 +21,7 @@ use Rattle.ledger.specs.declared.Event.{Event}
 use Rattle.ledger.specs.declared.Call.{Call}
 use Rattle.ledger.specs.declared.Call.the-variants.{Open, Show, Decide, Back, CoilOn}
 use Rattle.ledger.specs.Ledger.{Decision, choice, strike, Change, adds, withdraws, neither, changeOf, Ledger, sameDecision, inForce, with, without}
-use Rattle.ledger.specs.Ledger.{changed, reverted, backed, step, settings, otherChosen, starts, startSet, offersOf, wiped, Given, Cause, onSheet, allOnSheet, revertible}
+use Rattle.ledger.specs.Ledger.{applied, reverted, backed, step, settings, otherChosen, starts, startSet, offersOf, wiped, Given, Cause, onSheet, allOnSheet, revertible}
 use Rattle.ledger.specs.Ledger.{reversible, malformed, sessionCauses, addedAgain, withdrawnUnheld, stepCauses, judged, causes, number, after}
 
 -- ---- the same decision
@@ -93,10 +93,10 @@ module _ (ds es : List Decision) (a : Alike ds es) where
   pub alike-without : (d : Decision) → Alike (without d ds) (without d es)
   alike-without d e = inForce-without d ds e ∙ ap (λ (b : Bool). b && not (sameDecision d e)) (a e) ∙ sym (inForce-without d es e)
 
-  pub alike-changed : (k : Change) → Alike (changed k ds) (changed k es)
-  alike-changed (adds d) = alike-with d
-  alike-changed (withdraws d) = alike-without d
-  alike-changed neither = a
+  pub alike-applied : (k : Change) → Alike (applied k ds) (applied k es)
+  alike-applied (adds d) = alike-with d
+  alike-applied (withdraws d) = alike-without d
+  alike-applied neither = a
 
   pub alike-reverted : (k : Change) → Alike (reverted k ds) (reverted k es)
   alike-reverted (adds d) = alike-without d
@@ -173,7 +173,7 @@ pub step-same : (c : Call) (l m : Ledger) → SameLedger l m → SameLedger (ste
 unfolding step
 step-same Open l m s = record { held = λ d. refl; past = refl }
 step-same Show l m s = s
-step-same (Decide e) l m s = record { held = alike-changed _ _ (s .held) (changeOf e); past = ap (λ (es : List Event). e ∷ es) (s .past) }
+step-same (Decide e) l m s = record { held = alike-applied _ _ (s .held) (changeOf e); past = ap (λ (es : List Event). e ∷ es) (s .past) }
 step-same Back l m s = rw (s .past) (backed-same (m .events) (l .decisions) (m .decisions) (s .held))
 step-same CoilOn l m s = record { held = s .held; past = refl }
 

@@ -12,7 +12,7 @@ use Rattle.masks.specs.Masks.{keepBits, someBit}
 use Rattle.masks.specs.Sets.{has}
 use Rattle.masks.specs.Pick.{pick}
 use Rattle.consistency.specs.Offers.{offers, wipedOut}
-use Rattle.sheet.specs.Judge.{refusal, numbers, ofBytes}
+use Rattle.sheet.specs.Sources.{refusal, numbers, ofBytes}
 use Rattle.accepted.specs.declared.outline.Outline.{Outline}
 use Rattle.accepted.specs.Lists.{tabulate}
 use Rattle.accepted.specs.Parts.{reachOf}
@@ -92,10 +92,10 @@ without d (e ∷ ds) = pick (sameDecision e d) (without d ds) (e ∷ without d d
 -- ---- its steps
 
 -- the decisions after a change
-abbrev pub changed : Change → List Decision → List Decision
-changed (adds d) ds = with d ds
-changed (withdraws d) ds = without d ds
-changed neither ds = ds
+abbrev pub applied : Change → List Decision → List Decision
+applied (adds d) ds = with d ds
+applied (withdraws d) ds = without d ds
+applied neither ds = ds
 
 -- and before it: an added decision goes, a withdrawn one returns
 abbrev pub reverted : Change → List Decision → List Decision
@@ -116,7 +116,7 @@ backed (e ∷ es) ds = record { decisions = reverted (changeOf e) ds; events = e
 unfoldable pub step : Call → Ledger → Ledger
 step Open l = opened
 step Show l = l
-step (Decide e) l = record { decisions = changed (changeOf e) (l .decisions); events = e ∷ l .events }
+step (Decide e) l = record { decisions = applied (changeOf e) (l .decisions); events = e ∷ l .events }
 step Back l = backed (l .events) (l .decisions)
 step CoilOn l = record { decisions = l .decisions; events = [] }
 

@@ -12,14 +12,14 @@ use Rattle.limits.specs.Limits.{mostEvents}
 use Rattle.limits.specs.Refusals.{MALFORMED}
 use Rattle.masks.specs.Tests.{never, bool-cases, and-l, and-r, and-by, or-l}
 use Rattle.masks.specs.Pick.{pick-true, pick-false}
-use Rattle.sheet.specs.Judge.{refusal, numbers, ofBytes}
+use Rattle.sheet.specs.Sources.{refusal, numbers, ofBytes}
 use Rattle.accepted.specs.declared.outline.Outline.{Outline}
 use Rattle.accepted.specs.Outline.{outlineOf}
 use Rattle.accepted.specs.Refused.{refusal-few}
 use Rattle.ledger.specs.declared.Event.{Event}
 use Rattle.ledger.specs.declared.Call.{Call}
 use Rattle.ledger.specs.declared.Call.the-variants.{Open, Show, Decide, Back, CoilOn}
-use Rattle.ledger.specs.Ledger.{Decision, Change, adds, withdraws, neither, changeOf, Ledger, sameDecision, inForce, with, without, changed, reverted, opened}
+use Rattle.ledger.specs.Ledger.{Decision, Change, adds, withdraws, neither, changeOf, Ledger, sameDecision, inForce, with, without, applied, reverted, opened}
 use Rattle.ledger.specs.Ledger.{backed, step, Given, onSheet, allOnSheet, revertible, reversible, malformed, offSheet, addedAgain, withdrawnUnheld}
 use Rattle.ledger.specs.Ledger.{first, spaceCauses, sheetCauses, sessionCauses, engineCauses, placeCauses, orderCauses, stepCauses, offersCauses}
 use Rattle.ledger.specs.Ledger.{judged, causes, number, after}
@@ -50,10 +50,10 @@ withdrawn-back d ds n e = inForce-with d (without d ds) e ∙ ap (λ (b : Bool).
     go false q = and-true (inForce ds e)
 
 -- a change that neither 10 nor 11 refuses, reversed
-pub changed-back : (k : Change) (ds : List Decision) → addedAgain k ds ≡ false → withdrawnUnheld k ds ≡ false → Alike (reverted k (changed k ds)) ds
-changed-back (adds d) ds a b = added-back d ds a
-changed-back (withdraws d) ds a b = withdrawn-back d ds (not-back _ b)
-changed-back neither ds a b = λ e. refl
+pub applied-back : (k : Change) (ds : List Decision) → addedAgain k ds ≡ false → withdrawnUnheld k ds ≡ false → Alike (reverted k (applied k ds)) ds
+applied-back (adds d) ds a b = added-back d ds a
+applied-back (withdraws d) ds a b = withdrawn-back d ds (not-back _ b)
+applied-back neither ds a b = λ e. refl
 
 gone : (d : Decision) (ds : List Decision) → inForce (without d ds) d ≡ false
 gone d ds = inForce-without d ds d ∙ ap (λ (b : Bool). inForce ds d && not b) (decision-self d) ∙ and-false (inForce ds d)
@@ -80,15 +80,15 @@ module _ (o : Outline) where
   on-without d ds a = allOn-by o (without d ds) (λ e h. allOn-at o ds a e (and-l _ _ (sym (inForce-without d ds e) ∙ h)))
 
   -- a change on the sheet, made
-  on-changed : (k : Change) (ds : List Decision) → offSheet o k ≡ false → allOnSheet o ds ≡ true → allOnSheet o (changed k ds) ≡ true
-  on-changed (adds d) ds n a = on-with d ds (not-back _ n) a
-  on-changed (withdraws d) ds n a = on-without d ds a
-  on-changed neither ds n a = a
+  on-applied : (k : Change) (ds : List Decision) → offSheet o k ≡ false → allOnSheet o ds ≡ true → allOnSheet o (applied k ds) ≡ true
+  on-applied (adds d) ds n a = on-with d ds (not-back _ n) a
+  on-applied (withdraws d) ds n a = on-without d ds a
+  on-applied neither ds n a = a
 
-  changed-revertible : (k : Change) (ds : List Decision) → offSheet o k ≡ false → revertible o k (changed k ds) ≡ true
-  changed-revertible (adds d) ds n = and-by _ _ (not-back (onSheet o d) n) (here d ds)
-  changed-revertible (withdraws d) ds n = and-by _ _ (not-back (onSheet o d) n) (ap not (gone d ds))
-  changed-revertible neither ds n = sym n
+  applied-revertible : (k : Change) (ds : List Decision) → offSheet o k ≡ false → revertible o k (applied k ds) ≡ true
+  applied-revertible (adds d) ds n = and-by _ _ (not-back (onSheet o d) n) (here d ds)
+  applied-revertible (withdraws d) ds n = and-by _ _ (not-back (onSheet o d) n) (ap not (gone d ds))
+  applied-revertible neither ds n = sym n
 
   -- a change that can be reversed, reversed
   on-reverted : (k : Change) (ds : List Decision) → revertible o k ds ≡ true → allOnSheet o ds ≡ true → allOnSheet o (reverted k ds) ≡ true
@@ -101,10 +101,10 @@ module _ (o : Outline) where
   unfolding step
   decided-formed e l f p a b r =
       let w = well-formed o l f in
-      formed-by (record { decisions = changed (changeOf e) (l .decisions); events = e ∷ l .events })
-      (on-changed (changeOf e) (l .decisions) p (w .0)) (omega arith)
-      (unfold reversible in (and-by _ _ (changed-revertible (changeOf e) (l .decisions) p)
-      (alike-reversible o (l .events) _ _ (changed-back (changeOf e) (l .decisions) a b) ∙ w .2)))
+      formed-by (record { decisions = applied (changeOf e) (l .decisions); events = e ∷ l .events })
+      (on-applied (changeOf e) (l .decisions) p (w .0)) (omega arith)
+      (unfold reversible in (and-by _ _ (applied-revertible (changeOf e) (l .decisions) p)
+      (alike-reversible o (l .events) _ _ (applied-back (changeOf e) (l .decisions) a b) ∙ w .2)))
 
   -- the latest event reversed
   backed-formed : (es : List Event) (ds : List Decision) → allOnSheet o ds ≡ true → length es ≤ mostEvents → reversible o es ds ≡ true

@@ -15,7 +15,7 @@ use Rattle.masks.specs.Sets.{has}
 use Rattle.masks.specs.Pick.{pick}
 use Rattle.consistency.specs.SetUps as setUps
 use Rattle.consistency.specs.Problem.{SetUp}
-use Rattle.sheet.specs.Judge.{refusal, numbers, ofBytes}
+use Rattle.sheet.specs.Sources.{refusal, numbers, ofBytes}
 use Rattle.accepted.specs.declared.outline.Outline.{Outline}
 use Rattle.accepted.specs.Lists.{getD-tabulate}
 use Rattle.accepted.specs.Parts.{fieldsOf, countOf, reachOf, rulesOf, firstOf, secondOf, ruleAllows}
@@ -30,7 +30,7 @@ use Rattle.ledger.specs.Ledger.{judged, causes, number}
 use Rattle.ledger.specs.Causes.{Numbered, avoids-++, Misses, first-++, first-skip}
 use Rattle.ledger.specs.Laws.{decision-at, inForce-without, SameLedger, alike-offers}
 use Rattle.ledger.specs.Judging.{Clear, none-applies, space-numbered, sheet-numbered, session-numbered, early-numbered}
-use Rattle.ledger.specs.Sound.{and-true, changed-back}
+use Rattle.ledger.specs.Sound.{and-true, applied-back}
 
 -- ---- the start set, in 01's three cases
 
@@ -142,7 +142,7 @@ pub back-undoes : (g : Given) (e : Event) (l : Ledger) → number g (Decide e) l
 unfolding step backed
 back-undoes g e l z =
     let v = none-applies g (Decide e) l z in
-    record { held = changed-back (changeOf e) (l .decisions) (v .of-step .0) (v .of-step .1 .0); past = refl }
+    record { held = applied-back (changeOf e) (l .decisions) (v .of-step .0) (v .of-step .1 .0); past = refl }
 
 -- ---- engine and order alter nothing
 

@@ -14,7 +14,7 @@ use Rattle.masks.specs.Tests.{never, not-so, bool-cases, iff-eq, and-l, and-r, 
 use Rattle.masks.specs.Tests.{someBelow-by}
 use Rattle.masks.specs.Bits.{bit, bit-of-zero}
 use Rattle.masks.specs.Masks.{maskOf, bit-maskOf}
-use Rattle.sheet.specs.Judge.{Accepted}
+use Rattle.sheet.specs.Sources.{Accepted}
 use Rattle.accepted.specs.Parts.{fieldsOf, countOf, rulesOf, firstOf, secondOf, ruleAllows}
 use Rattle.accepted.specs.Facts.{Facts, facts}
 use Rattle.accepted.specs.Order.{no-pair-twice}

@@ -17,7 +17,7 @@ use Rattle.masks.specs.Tests.{not-so, bool-cases, eq-cases, iff-eq, and-by, or-
 use Rattle.masks.specs.Bits.{bit, bit-of-zero}
 use Rattle.masks.specs.Words.{bit-or, bit-one}
 use Rattle.masks.specs.Sets.{getD-zeros}
-use Rattle.sheet.specs.Judge.{Accepted}
+use Rattle.sheet.specs.Sources.{Accepted}
 use Rattle.accepted.specs.Parts.{rulesOf, ruleStart, firstOf, secondOf, RuleAt}
 use Rattle.accepted.specs.Facts.{Facts, facts}
 use Rattle.accepted.specs.Order.{no-pair-twice}

@@ -6,7 +6,7 @@ use lib.ListN.{getD}
 use Rattle.limits.specs.Limits.{mostFields}
 use Rattle.consistency.specs.Problem.{Problem}
 use Rattle.consistency.specs.Neighbourhood.{neighbourhood}
-use Rattle.sheet.specs.Judge.{Accepted}
+use Rattle.sheet.specs.Sources.{Accepted}
 use Rattle.accepted.specs.Parts.{fieldsOf, reachOf, rulesOf}
 use Rattle.accepted.specs.Facts.{facts}
 use Rattle.network.specs.declared.build.Network.{Network}

@@ -2,7 +2,7 @@
 ghost use Prim.Native.Nat.{_≤_};
 ghost use lib.ListN.{length};
 ghost use Rattle.limits.specs.Limits.{rowsWords};
-ghost use Rattle.sheet.specs.Judge.{Accepted};
+ghost use Rattle.sheet.specs.Sources.{Accepted};
 ghost use Rattle.network.specs.Tables.{forwardOf, turnedOf};
 ghost use Rattle.network.specs.Network.{NetworkOf};
 use super::fill::fill;

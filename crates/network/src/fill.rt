@@ -3,7 +3,7 @@ ghost use mathlib.Core.Path.{_≡_};
 ghost use Prim.Native.Nat.{_<_, _≤_};
 ghost use lib.ListN.{length};
 ghost use Rattle.limits.specs.Limits.{rowsWords};
-ghost use Rattle.sheet.specs.Judge.{Accepted};
+ghost use Rattle.sheet.specs.Sources.{Accepted};
 ghost use Rattle.accepted.specs.Parts.{countOf, rulesOf, firstOf, secondOf, RuleAt};
 ghost use Rattle.network.specs.Tables.{forwardOf, turnedOf};
 ghost use Rattle.network.specs.Built.{rowOf, Holds};

@@ -43,10 +43,10 @@ lost d (choice f v) = record { choices = lose (d .choices) f v; strikes = d .str
 lost d (strike f v) = record { choices = d .choices; strikes = lose (d .strikes) f v }
 
 -- the decisions after a change, and before it
-abbrev pub changedIn : Change → Decisions → Decisions
-changedIn (adds x) d = gained d x
-changedIn (withdraws x) d = lost d x
-changedIn neither d = d
+abbrev pub appliedIn : Change → Decisions → Decisions
+appliedIn (adds x) d = gained d x
+appliedIn (withdraws x) d = lost d x
+appliedIn neither d = d
 
 abbrev pub revertedIn : Change → Decisions → Decisions
 revertedIn (adds x) d = lost d x
@@ -82,10 +82,10 @@ lost-long : (d : Decisions) (x : Decision) → Long d → Long (lost d x)
 lost-long d (choice f v) l = record { choices = length-lose (d .choices) f v ∙ l .choices; strikes = l .strikes }
 lost-long d (strike f v) l = record { choices = l .choices; strikes = length-lose (d .strikes) f v ∙ l .strikes }
 
-pub changed-long : (k : Change) (d : Decisions) → Long d → Long (changedIn k d)
-changed-long (adds x) d l = gained-long d x l
-changed-long (withdraws x) d l = lost-long d x l
-changed-long neither d l = l
+pub applied-long : (k : Change) (d : Decisions) → Long d → Long (appliedIn k d)
+applied-long (adds x) d l = gained-long d x l
+applied-long (withdraws x) d l = lost-long d x l
+applied-long neither d l = l
 
 pub reverted-long : (k : Change) (d : Decisions) → Long d → Long (revertedIn k d)
 reverted-long (adds x) d l = lost-long d x l

@@ -19,13 +19,13 @@ use Rattle.masks.specs.Words.{bit-and-not}
 use Rattle.masks.specs.Sets.{has}
 use Rattle.accepted.specs.declared.outline.Outline.{Outline}
 use Rattle.ledger.specs.declared.Event.{Event}
-use Rattle.ledger.specs.Ledger.{Decision, choice, strike, Change, adds, withdraws, neither, changeOf, sameDecision, inForce, with, without, changed, reverted}
+use Rattle.ledger.specs.Ledger.{Decision, choice, strike, Change, adds, withdraws, neither, changeOf, sameDecision, inForce, with, without, applied, reverted}
 use Rattle.ledger.specs.Ledger.{onSheet, allOnSheet, revertible, reversible, malformed}
 use Rattle.ledger.specs.Kinds.{change-any}
 use Rattle.ledger.specs.Laws.{inForce-with, inForce-without, allOn-at, allOn-by, Alike, alike-reversible}
 use Rattle.session.specs.declared.Session.{Session}
 use Rattle.session.specs.declared.decisions.Decisions.{Decisions}
-use Rattle.session.specs.Decisions.{heldIn, gained, lost, changedIn, revertedIn, Found, Long, reverted-long, Low, LowChange, change-low, held-gained, held-lost}
+use Rattle.session.specs.Decisions.{heldIn, gained, lost, appliedIn, revertedIn, Found, Long, reverted-long, Low, LowChange, change-low, held-gained, held-lost}
 use Rattle.session.specs.View.{decisionsOf, inForce-of, noEvent, past, length-past, past-latest, view}
 
 -- ---- a decision on the sheet
@@ -109,10 +109,10 @@ module _ (d : Decisions) (l : Long d) where
   alike-gained x h e = inForce-with x (decisionsOf d) e ∙ ap (λ (b : Bool). sameDecision x e || b) (inForce-of d e)
       ∙ sym (held-gained d l x h e) ∙ sym (inForce-of (gained d x) e)
 
-  pub alike-changed-in : (k : Change) → LowChange k → Alike (changed k (decisionsOf d)) (decisionsOf (changedIn k d))
-  alike-changed-in (adds x) h = alike-gained x h
-  alike-changed-in (withdraws x) h = alike-lost x h
-  alike-changed-in neither h = λ e. refl
+  pub alike-applied-in : (k : Change) → LowChange k → Alike (applied k (decisionsOf d)) (decisionsOf (appliedIn k d))
+  alike-applied-in (adds x) h = alike-gained x h
+  alike-applied-in (withdraws x) h = alike-lost x h
+  alike-applied-in neither h = λ e. refl
 
   pub alike-reverted-in : (k : Change) → LowChange k → Alike (reverted k (decisionsOf d)) (decisionsOf (revertedIn k d))
   alike-reverted-in (adds x) h = alike-lost x h

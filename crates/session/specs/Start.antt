@@ -15,7 +15,7 @@ use Rattle.masks.specs.Bits.{bit, bit-of-zero, bit-ext, bit-nonzero, bit-some}
 use Rattle.masks.specs.Masks.{keepBits, bit-keepBits, keepBits-cong, someBit, someBit-at, someBit-by}
 use Rattle.masks.specs.Words.{bit-and, bit-and-not, clear, bit-clear, clear-other, Lowest}
 use Rattle.masks.specs.Sets.{has, pad}
-use Rattle.sheet.specs.Judge.{Accepted}
+use Rattle.sheet.specs.Sources.{Accepted}
 use Rattle.accepted.specs.declared.outline.Outline.{Outline}
 use Rattle.accepted.specs.Lists.{tabulate, tabulate-pad}
 use Rattle.accepted.specs.Parts.{fieldsOf}

@@ -15,9 +15,9 @@ use Rattle.ledger.specs.Ledger.{Decision, choice, strike, changeOf, inForce, ba
 use Rattle.ledger.specs.Laws.{SameLedger, same-ledger}
 use Rattle.session.specs.declared.Session.{Session}
 use Rattle.session.specs.declared.decisions.Decisions.{Decisions}
-use Rattle.session.specs.Decisions.{heldIn, changedIn, revertedIn, changed-long, reverted-long, change-low}
+use Rattle.session.specs.Decisions.{heldIn, appliedIn, revertedIn, applied-long, reverted-long, change-low}
 use Rattle.session.specs.View.{decisionsOf, inForce-of, noEvent, past, past-push, past-latest, view, withDecisions, withEvents, Sized}
-use Rattle.session.specs.Form.{alike-changed-in, alike-reverted-in}
+use Rattle.session.specs.Form.{alike-applied-in, alike-reverted-in}
 
 abbrev pub noDecisions : Decisions
 noDecisions = record { choices = replicate mostFields 0; strikes = replicate mostFields 0 }
@@ -32,7 +32,7 @@ begun s d = withEvents (s .events) 0 (withDecisions d s)
 
 -- the decisions after an event, the event in its place, and the count
 abbrev pub recorded : Session → Event → Session
-recorded s e = withEvents (set (s .events) (s .count) e) (s .count + 1) (withDecisions (changedIn (changeOf e) (s .decisions)) s)
+recorded s e = withEvents (set (s .events) (s .count) e) (s .count + 1) (withDecisions (appliedIn (changeOf e) (s .decisions)) s)
 
 -- the latest event
 abbrev pub latest : Session → Event
@@ -76,7 +76,7 @@ module _ (s : Session) (z : Sized s) where
   record-same : (e : Event) → RecordAsks e s → SameLedger (view (recorded s e)) (step (Decide e) (view s))
   unfolding view step
   record-same e a = record {
-    held = λ d. sym (alike-changed-in (s .decisions) (z .decisions) (changeOf e) (change-low (e .kind) (e .field) (e .position) (a .field)) d);
+    held = λ d. sym (alike-applied-in (s .decisions) (z .decisions) (changeOf e) (change-low (e .kind) (e .field) (e .position) (a .field)) d);
     past = rw (add-one (s .count)) (past-push (s .events) (s .count) e (let r = a .room in let n = z .events in omega arith));
   }
 
@@ -109,6 +109,6 @@ stepped-sized Open s z = record {
   events = z .events;
 }
 stepped-sized Show s z = z
-stepped-sized (Decide e) s z = record { decisions = changed-long (changeOf e) (s .decisions) (z .decisions); events = length-set (s .events) (s .count) e ∙ z .events }
+stepped-sized (Decide e) s z = record { decisions = applied-long (changeOf e) (s .decisions) (z .decisions); events = length-set (s .events) (s .count) e ∙ z .events }
 stepped-sized Back s z = record { decisions = reverted-long (changeOf (latest s)) (s .decisions) (z .decisions); events = z .events }
 stepped-sized CoilOn s z = record { decisions = z .decisions; events = z .events }

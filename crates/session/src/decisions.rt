@@ -5,7 +5,7 @@ ghost use Rattle.masks.specs.Bits.{bit};
 ghost use Rattle.limits.specs.Limits.{mostFields};
 ghost use Prim.Native.Nat.{_<_};
 ghost use Rattle.ledger.specs.Ledger.{changeOf};
-ghost use Rattle.session.specs.Decisions.{decisionOf, heldIn, gained, lost, changedIn, revertedIn, Found};
+ghost use Rattle.session.specs.Decisions.{decisionOf, heldIn, gained, lost, appliedIn, revertedIn, Found};
 use ledger::CHOOSE;
 use ledger::Event;
 use ledger::STRIKE;
@@ -85,9 +85,9 @@ fn withdraw(d: Decisions, strike: bool, f: usize, v: usize) -> Decisions
 }
 
 // The decisions after an event.
-pub fn change(d: Decisions, e: Event) -> Decisions
+pub fn apply(d: Decisions, e: Event) -> Decisions
     requires { ⌜ (e .field < mostFields) × (e .position < 32) ⌝ }
-    ensures { λ r. ⌜ r ≡ changedIn (changeOf e) d ⌝ }
+    ensures { λ r. ⌜ r ≡ appliedIn (changeOf e) d ⌝ }
 {
     let kind = e.kind;
     let f = e.field as usize;

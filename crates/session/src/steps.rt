@@ -3,7 +3,7 @@ ghost use mathlib.Core.Path.{_≡_};
 ghost use Rattle.session.specs.Steps.{begun, recorded, undone, stepped, RecordAsks, UndoAsks, StepAsks};
 use super::Session;
 use super::decisions::Decisions;
-use super::decisions::change;
+use super::decisions::apply;
 use super::decisions::revert;
 use ledger::Call;
 use ledger::Event;
@@ -24,7 +24,7 @@ fn record(session: Session, e: Event) -> Session
     requires { ⌜ RecordAsks e session ⌝ }
     ensures { λ r. ⌜ r ≡ recorded session e ⌝ }
 {
-    let d = change(session.decisions, e);
+    let d = apply(session.decisions, e);
     let count = session.count;
     let mut next = session;
     next.decisions = d;

@@ -12,7 +12,7 @@ use Rattle.masks.specs.Pick.{pick-true, pick-false}
 use Rattle.groups.specs.Groups.{numberAt, number-next}
 use Rattle.groups.specs.declared.groups.Number.{Number}
 use Rattle.groups.specs.declared.groups.Number.the-variants.{Value, Ended, IllFormed}
-use Rattle.sheet.specs.Judge.{Item, num, cut, ill, itemsBy, items, itemsFrom}
+use Rattle.sheet.specs.Sources.{Item, num, cut, ill, itemsBy, items, itemsFrom}
 
 items-end : (most : ℕ) (s : List ℕ) (at : ℕ) → length s ≤ at → items most s at ≡ []
 unfolding items

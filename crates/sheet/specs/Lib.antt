@@ -1,5 +1,5 @@
 -- What the contracts of `sheet` cite.
-pub mod Judge
+pub mod Sources
 -- laws that the functions' proofs use
 pub mod Items
 pub mod Turns

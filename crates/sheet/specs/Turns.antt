@@ -13,38 +13,38 @@ use Rattle.masks.specs.Pick.{pick, pick-true, pick-false}
 use Rattle.groups.specs.Storing.{sets-front}
 use Rattle.groups.specs.Groups.{encode}
 use Rattle.limits.specs.Refusals.{ENDS-INSIDE, ILL-FORMED, TOO-SHORT}
-use Rattle.grammar.specs.Grammar.{step, atEnd}
+use Rattle.grammar.specs.Grammar.{advance, atEnd}
 use Rattle.grammar.specs.declared.grammar.Expected.{Expected}
 use Rattle.grammar.specs.declared.grammar.Expected.the-variants.{Fields, Count, Setting, Reach, Rules, First, Second, Kind, Mask, Amount}
 use Rattle.grammar.specs.declared.grammar.State.{State}
 use Rattle.grammar.specs.declared.grammar.State.the-variants.{Wants}
-use Rattle.sheet.specs.Judge.{Item, num, cut, ill, meets, judge, refusal, numbers, ofNumbers, bytesOf, answered, checked, Outcome, outcome, refusing, giving, Gives}
+use Rattle.sheet.specs.Sources.{Item, num, cut, ill, meets, refusalFrom, refusal, numbers, ofNumbers, bytesOf, answered, checked, Produced, produced, refusing, giving, Gives}
 use Rattle.sheet.specs.declared.answer.Answer.{Answer}
 
 -- ---- a turn
 
 -- After some items of `all`, with `is` to come: the state, the counts, and how many of the values there are, with `rest` to come.
 pub record Going (st : State) (ds : List ℕ) (is all : List Item) (count : ℕ) (rest values : List ℕ) : Type 0 where
-  pub judged : judge st ds is ≡ refusal all
+  pub judged : refusalFrom st ds is ≡ refusal all
   pub size : count + length rest ≡ length values
 
 module _ {st : State} {ds : List ℕ} {is all : List Item} {count : ℕ} {rest values : List ℕ} where
   -- a number that is expected
   pub going-on : (n : ℕ) (e : Expected) (x : ℕ) (js : List Item) (part rest′ : List ℕ) → st ≡ Wants n e → is ≡ num x ∷ js → rest ≡ part ++ rest′
-      → Going st ds is all count rest values → Going (step n e ds x .0) (step n e ds x .1) js all (count + length part) rest′ values
-  unfolding judge
+      → Going st ds is all count rest values → Going (advance n e ds x .0) (advance n e ds x .1) js all (count + length part) rest′ values
+  unfolding refusalFrom
   going-on n e x js part rest′ p q r g = record {
-    judged = sym (ap₂ (λ (s : State) (l : List Item). judge s ds l) p q) ∙ g .judged;
+    judged = sym (ap₂ (λ (s : State) (l : List Item). refusalFrom s ds l) p q) ∙ g .judged;
     size = omega (arith, ap length r, length-append part rest′, g .size);
   }
 
   -- the end
   pub going-end : is ≡ [] → rest ≡ [] → Going st ds is all count rest values → answered (atEnd st) count ≡ checked all values
-  unfolding judge
-  going-end p q g = ap₂ answered (sym (ap (judge st ds) p) ∙ g .judged) (omega (arith, ap length q, g .size))
+  unfolding refusalFrom
+  going-end p q g = ap₂ answered (sym (ap (refusalFrom st ds) p) ∙ g .judged) (omega (arith, ap length q, g .size))
 
   -- a refusal
-  pub going-refused : (k : ℕ) → 0 < k → judge st ds is ≡ k → Going st ds is all count rest values → answered k 0 ≡ checked all values
+  pub going-refused : (k : ℕ) → 0 < k → refusalFrom st ds is ≡ k → Going st ds is all count rest values → answered k 0 ≡ checked all values
   unfolding pick
   going-refused k h e g =
       let z : refusal all ≡ k = sym (g .judged) ∙ e in
@@ -52,8 +52,8 @@ module _ {st : State} {ds : List ℕ} {is all : List Item} {count : ℕ} {rest v
 
 -- a state that expects no number
 pub stays : (st : State) (ds : List ℕ) (k : ℕ) (is : List Item) → ((f : ℕ → Expected → ℕ) → meets st f ≡ k) → (length is ≡ 0 → atEnd st ≡ k)
-    → judge st ds is ≡ k
-unfolding judge
+    → refusalFrom st ds is ≡ k
+unfolding refusalFrom
 stays st ds k [] h p = p refl
 stays st ds k (num x ∷ is) h p = h _
 stays st ds k (cut ∷ is) h p = h _
@@ -65,13 +65,13 @@ pub going-stays : {st : State} {ds : List ℕ} {is all : List Item} {count : ℕ
 going-stays {st = st} {ds = ds} {is = is} k h e p g = going-refused k h (stays st ds k is e (λ z. absurd (omega (arith, z, p)))) g
 
 -- an item that is no number, where one is expected
-pub judge-cut : (n : ℕ) (e : Expected) (ds : List ℕ) → judge (Wants n e) ds (cut ∷ []) ≡ ENDS-INSIDE
-unfolding judge
-judge-cut n e ds = refl
+pub refusalFrom-cut : (n : ℕ) (e : Expected) (ds : List ℕ) → refusalFrom (Wants n e) ds (cut ∷ []) ≡ ENDS-INSIDE
+unfolding refusalFrom
+refusalFrom-cut n e ds = refl
 
-pub judge-ill : (n : ℕ) (e : Expected) (ds : List ℕ) → judge (Wants n e) ds (ill ∷ []) ≡ ILL-FORMED
-unfolding judge
-judge-ill n e ds = refl
+pub refusalFrom-ill : (n : ℕ) (e : Expected) (ds : List ℕ) → refusalFrom (Wants n e) ds (ill ∷ []) ≡ ILL-FORMED
+unfolding refusalFrom
+refusalFrom-ill n e ds = refl
 
 pub numbers-num : (x : ℕ) (is : List Item) → numbers (num x ∷ is) ≡ x ∷ numbers is
 unfolding numbers
@@ -106,16 +106,16 @@ module _ (is : List Item) (values before : List ℕ) (a : Answer) (e : a ≡ che
   length-is : a .number ≡ 0 → a .length ≡ length values
   length-is z = ap (λ (r : Answer). r .length) e ∙ pick-true _ _ _ (eq-eqb _ 0 (sym number-is ∙ z))
 
-  gives : (o : Outcome) (r : Answer) (after : List ℕ) → outcome (refusal is) values before ≡ o → r ≡ o .answer → after ≡ o .output
-      → Gives (outcome (refusal is) values before) r after
-  gives o r after q p s = record { answers = p ∙ ap (λ (x : Outcome). x .answer) (sym q); outputs = s ∙ ap (λ (x : Outcome). x .output) (sym q) }
+  gives : (o : Produced) (r : Answer) (after : List ℕ) → produced (refusal is) values before ≡ o → r ≡ o .answer → after ≡ o .output
+      → Gives (produced (refusal is) values before) r after
+  gives o r after q p s = record { answers = p ∙ ap (λ (x : Produced). x .answer) (sym q); outputs = s ∙ ap (λ (x : Produced). x .output) (sym q) }
 
-  pub gives-refused : (a .number ≡ 0 → ⊥) → Gives (outcome (refusal is) values before) a before
+  pub gives-refused : (a .number ≡ 0 → ⊥) → Gives (produced (refusal is) values before) a before
   gives-refused h =
       let z : eqb (refusal is) 0 ≡ false = ne-eqb _ 0 (λ q. h (number-is ∙ q)) in
       gives (refusing (refusal is) before) a before (pick-false _ _ _ z) (e ∙ ap (λ (l : ℕ). record { number = refusal is; length = l }) (pick-false _ _ _ z ∙ sym (pick-false _ 0 0 z))) refl
 
-  pub gives-short : (r : Answer) → a .number ≡ 0 → length before < a .length → r ≡ answered TOO-SHORT 0 → Gives (outcome (refusal is) values before) r before
+  pub gives-short : (r : Answer) → a .number ≡ 0 → length before < a .length → r ≡ answered TOO-SHORT 0 → Gives (produced (refusal is) values before) r before
   gives-short r z h q =
       gives (refusing TOO-SHORT before) r before
       (pick-true _ _ _ (eq-eqb _ 0 (sym number-is ∙ z)) ∙ pick-false _ _ _ (lt-leb (length values) (length before) (rw (length-is z) at h))) q refl
@@ -123,23 +123,23 @@ module _ (is : List Item) (values before : List ℕ) (a : Answer) (e : a ≡ che
   pub gives-room : a .number ≡ 0 → a .length ≤ length before → length values ≤ length before
   gives-room z h = rw (length-is z) at h
 
-  pub gives-values : (after : List ℕ) → a .number ≡ 0 → a .length ≤ length before → after ≡ sets before 0 values → Gives (outcome (refusal is) values before) a after
+  pub gives-values : (after : List ℕ) → a .number ≡ 0 → a .length ≤ length before → after ≡ sets before 0 values → Gives (produced (refusal is) values before) a after
   gives-values after z h q =
       let v : refusal is ≡ 0 = sym number-is ∙ z in
       gives (giving values before) a after
       (pick-true _ _ _ (eq-eqb _ 0 v) ∙ pick-true _ _ _ (le-leb (length values) (length before) (gives-room z h)))
       (e ∙ ap (λ (k : ℕ). answered k (length values)) v) (q ∙ sets-front before values (gives-room z h))
 
--- a step leaves as many counts
-pub step-length : (n : ℕ) (e : Expected) (ds : List ℕ) (x : ℕ) → length (step n e ds x .1) ≡ length ds
-unfolding step
-step-length n Fields ds x = refl
-step-length n (Count f) ds x = length-set ds f x
-step-length n (Setting f more floor) ds x = refl
-step-length n Reach ds x = refl
-step-length n Rules ds x = refl
-step-length n (First rules floor) ds x = refl
-step-length n (Second rules floor i) ds x = refl
-step-length n (Kind rules i j) ds x = refl
-step-length n (Mask rules floor j more) ds x = refl
-step-length n (Amount rules floor) ds x = refl
+-- a number leaves as many counts
+pub advance-length : (n : ℕ) (e : Expected) (ds : List ℕ) (x : ℕ) → length (advance n e ds x .1) ≡ length ds
+unfolding advance
+advance-length n Fields ds x = refl
+advance-length n (Count f) ds x = length-set ds f x
+advance-length n (Setting f more floor) ds x = refl
+advance-length n Reach ds x = refl
+advance-length n Rules ds x = refl
+advance-length n (First rules floor) ds x = refl
+advance-length n (Second rules floor i) ds x = refl
+advance-length n (Kind rules i j) ds x = refl
+advance-length n (Mask rules floor j more) ds x = refl
+advance-length n (Amount rules floor) ds x = refl

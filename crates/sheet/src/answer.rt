@@ -1,6 +1,6 @@
 // What a call that reads or writes a sheet answers: 0 and a length, or the number of a refusal and 0.
 ghost use mathlib.Core.Path.{_≡_};
-ghost use Rattle.sheet.specs.Judge.{answered};
+ghost use Rattle.sheet.specs.Sources.{answered};
 
 #[repr(C)]
 pub struct Answer {

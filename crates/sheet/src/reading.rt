@@ -4,13 +4,13 @@ ghost use Prim.Native.Nat.{_≤_};
 ghost use lib.ListN.{length, replicate};
 ghost use lib.Seq.{sets};
 ghost use Rattle.limits.specs.Limits.{mostFields};
-ghost use Rattle.sheet.specs.Judge.{checked, Gives, reading, ofBytes, numbers};
+ghost use Rattle.sheet.specs.Sources.{checked, Gives, reading, ofBytes, numbers};
 use super::answer::Answer;
 use super::answer::answered;
 use grammar::grammar::Expected;
 use grammar::grammar::State;
+use grammar::grammar::advance;
 use grammar::grammar::at_end;
-use grammar::grammar::step;
 use groups::groups::Number;
 use groups::reader::read_number;
 use limits::MOST_FIELDS;
@@ -35,7 +35,7 @@ fn check_with(sheet: &[u8], counts: &mut [u32]) -> Answer
                 let number = read_number(sheet, place);
                 match number {
                     Number::Value(x, next) => {
-                        state = step(n, expected, counts, x);
+                        state = advance(n, expected, counts, x);
                         place = next;
                         count += 1;
                     }

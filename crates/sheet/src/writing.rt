@@ -4,13 +4,13 @@ ghost use Prim.Native.Nat.{_≤_};
 ghost use lib.ListN.{length, replicate};
 ghost use lib.Seq.{sets};
 ghost use Rattle.limits.specs.Limits.{mostFields};
-ghost use Rattle.sheet.specs.Judge.{checked, Gives, writing, ofNumbers, bytesOf};
+ghost use Rattle.sheet.specs.Sources.{checked, Gives, writing, ofNumbers, bytesOf};
 use super::answer::Answer;
 use super::answer::answered;
 use grammar::grammar::Expected;
 use grammar::grammar::State;
+use grammar::grammar::advance;
 use grammar::grammar::at_end;
-use grammar::grammar::step;
 use groups::groups::put;
 use groups::groups::size;
 use limits::MOST_FIELDS;
@@ -31,7 +31,7 @@ fn check_with(numbers: &[u32], counts: &mut [u32]) -> Answer
         match state {
             State::Wants(n, expected) => {
                 let x = numbers[k];
-                state = step(n, expected, counts, x);
+                state = advance(n, expected, counts, x);
                 bytes += size(x);
                 k += 1;
             }

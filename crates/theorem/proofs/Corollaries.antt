@@ -8,7 +8,7 @@ use lib.Dec.{eqb}
 use lib.ListN.{length, take}
 use borrow.Author.Tests.{eqb-true, eq-eqb}
 use Rattle.masks.specs.Pick.{pick, pick-true}
-use Rattle.sheet.specs.Judge.{numbers, ofBytes}
+use Rattle.sheet.specs.Sources.{numbers, ofBytes}
 use Rattle.limits.specs.Refusals.{MALFORMED}
 use Rattle.accepted.specs.Outline.{outlineOf}
 use Rattle.ledger.specs.declared.Event.{Event}
@@ -81,13 +81,13 @@ engine-order-spaces t u a b s p q =
 -- ---- back after a change shows the page before it
 
 -- the ledger after an accepted call is its step
-stepped : (l : Ledger) (t : Turn) → Agrees l t → t .number ≡ 0 → next l t ≡ step (t .call) l
+next-is-step : (l : Ledger) (t : Turn) → Agrees l t → t .number ≡ 0 → next l t ≡ step (t .call) l
 unfolding after
-stepped l t a n = pick-true _ _ _ (eq-eqb _ 0 (sym (a .numbered) ∙ n))
+next-is-step l t a n = pick-true _ _ _ (eq-eqb _ 0 (sym (a .numbered) ∙ n))
 
 pub back-shows-again : (l : Ledger) (t u : Turn) → Agrees l t → Agrees (next l t) u → (e : Event) → t .call ≡ Call.Decide e → u .call ≡ Call.Back → t .number ≡ 0 → u .number ≡ 0
     → SameLedger (next (next l t) u) l × (take (fields u) (u .left .offers) ≡ offersOf (numbersOf u) l)
 back-shows-again l t u a b e c o n m =
-    let q : next (next l t) u ≡ step Call.Back (step (Call.Decide e) l) = stepped (next l t) u b m ∙ rw (o, stepped l t a n, c) in
+    let q : next (next l t) u ≡ step Call.Back (step (Call.Decide e) l) = next-is-step (next l t) u b m ∙ rw (o, next-is-step l t a n, c) in
     let s : SameLedger (next (next l t) u) l = rw q (back-undoes (givenTo t) e l (rw c at (sym (a .numbered) ∙ n))) in
     (s, b .shown m ∙ alike-offers (next (next l t) u) l (numbersOf u) (s .held))

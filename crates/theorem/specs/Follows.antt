@@ -4,7 +4,7 @@ use mathlib.Core.Path.{_≡_}
 use mathlib.Core.List.{List, [], _∷_}
 use Prim.Native.Nat.{ℕ}
 use lib.ListN.{take, drop}
-use Rattle.sheet.specs.Judge.{numbers, ofBytes}
+use Rattle.sheet.specs.Sources.{numbers, ofBytes}
 use Rattle.accepted.specs.Parts.{fieldsOf}
 use Rattle.ledger.specs.Ledger.{Decision, Ledger, Given, inForce, offersOf, number, after}
 use Rattle.session.specs.Decisions.{heldIn}

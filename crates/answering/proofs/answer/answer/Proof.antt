@@ -3,7 +3,7 @@ use mathlib.Core.Bool.{true, false}
 use lib.ListN.{length, length-map, take}
 use lib.Seq.{length-take-le}
 use denote.Ref.{now}
-use Rattle.sheet.specs.Judge.{refusal, numbers, ofBytes, Accepted}
+use Rattle.sheet.specs.Sources.{refusal, numbers, ofBytes, Accepted}
 use Rattle.accepted.specs.declared.outline.Outline.{Outline}
 use Rattle.accepted.specs.Accept.{bytes-accepted}
 use Rattle.accepted.specs.Outline.{outlineOf}

@@ -2,8 +2,8 @@ use borrow.Author.Needs.{needs}
 use Rattle.session.proofs.steps.record.Statement.{statement}
 use Rattle.session.proofs.steps.record.Tie as tie
 
-change-requires : tie.Need-change-requires
-change-requires c κs = search needs
+apply-requires : tie.Need-apply-requires
+apply-requires c κs = search needs
 
 cast-e : tie.Need-cast-e
 cast-e c = search needs
@@ -18,7 +18,7 @@ add-next : tie.Need-add-next
 add-next c = search needs
 
 returns : tie.Need-returns
-returns c = rw (c .change .ensures)
+returns c = rw (c .apply .ensures)
 
 pub record-spec : {M : Type 1} → statement M
-record-spec = tie.close (tie.spec change-requires cast-e mul-e element-set-from-e add-next returns)
+record-spec = tie.close (tie.spec apply-requires cast-e mul-e element-set-from-e add-next returns)

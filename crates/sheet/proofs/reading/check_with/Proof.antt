@@ -9,9 +9,9 @@ use Rattle.groups.specs.Groups.{numberAt, number-next}
 use Rattle.groups.specs.declared.groups.Number.the-variants.{Value}
 use Rattle.grammar.specs.Grammar.{start}
 use Rattle.grammar.specs.declared.grammar.State.{State}
-use Rattle.sheet.specs.Judge.{Item, meets, judge, numbers, itemsFrom, ofBytes, answered}
+use Rattle.sheet.specs.Sources.{Item, meets, refusalFrom, numbers, itemsFrom, ofBytes, answered}
 use Rattle.sheet.specs.Items.{from-end, from-num, from-cut, from-ill, from-some}
-use Rattle.sheet.specs.Turns.{Going, going-on, going-end, going-refused, going-stays, judge-cut, judge-ill, numbers-num, numbers-none, step-length}
+use Rattle.sheet.specs.Turns.{Going, going-on, going-end, going-refused, going-stays, refusalFrom-cut, refusalFrom-ill, numbers-num, numbers-none, advance-length}
 use Rattle.sheet.proofs.reading.check_with.Statement.{statement}
 use Rattle.sheet.proofs.reading.check_with.Tie as tie
 
@@ -37,7 +37,7 @@ onward c = let l = c .before .before .before .before .before .before .before .lo
 loop-holds : tie.Need-loop-holds Inv-loop μ-loop
 loop-holds c =
     let s = now (c .before .before .args .sheet) in
-    (record { judged = ap (λ (ds : List ℕ). judge start ds (ofBytes s)) (c .before .before .pre); size = omega arith }, refl, omega arith, omega arith)
+    (record { judged = ap (λ (ds : List ℕ). refusalFrom start ds (ofBytes s)) (c .before .before .pre); size = omega arith }, refl, omega arith, omega arith)
 
 loop-again : tie.Need-loop-again Inv-loop μ-loop
 loop-again c =
@@ -49,9 +49,9 @@ loop-again c =
     let st = c .before .before .before .before .before .before .before .before .before .state .given in
     let on = onward d in
     let from = from-num s (l .place) x next (omega arith) (found d) in
-    let done = c .before .before .step .ensures in (
+    let done = c .before .before .advance .ensures in (
       rw (done .0, done .1) (going-on (st .0 .0) (st .0 .1 .0) x (itemsFrom s next) (x ∷ []) (numbers (itemsFrom s next)) (st .1) from (ap numbers from ∙ numbers-num x _) (l .inv .0)),
-      rw (done .1) (step-length _ _ _ _ ∙ l .inv .1),
+      rw (done .1) (advance-length _ _ _ _ ∙ l .inv .1),
       omega arith,
       omega arith,
     )
@@ -63,9 +63,9 @@ returns c =
     let st = c .before .before .before .before .before .state .given in
     c .answered .ensures
     ∙ going-refused 1 (omega arith)
-    (ap₂ (λ (q : State) (is : List Item). judge q (l .counts) is) (st .1)
+    (ap₂ (λ (q : State) (is : List Item). refusalFrom q (l .counts) is) (st .1)
     (from-cut s (l .place) (omega arith) (sym (c .before .before .before .read-number .ensures) ∙ c .before .enum-told .given .1))
-    ∙ judge-cut _ _ _)
+    ∙ refusalFrom-cut _ _ _)
     (l .inv .0)
 
 returns-2 : tie.Need-returns-2 Inv-loop μ-loop
@@ -75,9 +75,9 @@ returns-2 c =
     let st = c .before .before .before .before .before .state .given in
     c .answered2 .ensures
     ∙ going-refused 2 (omega arith)
-    (ap₂ (λ (q : State) (is : List Item). judge q (l .counts) is) (st .1)
+    (ap₂ (λ (q : State) (is : List Item). refusalFrom q (l .counts) is) (st .1)
     (from-ill s (l .place) (omega arith) (sym (c .before .before .before .read-number .ensures) ∙ c .before .enum-told2 .given .1))
-    ∙ judge-ill _ _ _)
+    ∙ refusalFrom-ill _ _ _)
     (l .inv .0)
 
 returns-3 : tie.Need-returns-3 Inv-loop μ-loop

@@ -8,8 +8,8 @@ use denote.Ref.{now}
 use Rattle.groups.specs.Groups.{encode}
 use Rattle.grammar.specs.Grammar.{start}
 use Rattle.grammar.specs.declared.grammar.State.{State}
-use Rattle.sheet.specs.Judge.{meets, judge, ofNumbers, bytesOf, answered}
-use Rattle.sheet.specs.Turns.{Going, going-on, going-end, going-stays, items-next, bytes-next, bytes-end, step-length}
+use Rattle.sheet.specs.Sources.{meets, refusalFrom, ofNumbers, bytesOf, answered}
+use Rattle.sheet.specs.Turns.{Going, going-on, going-end, going-stays, items-next, bytes-next, bytes-end, advance-length}
 use Rattle.sheet.proofs.writing.check_with.Statement.{statement}
 use Rattle.sheet.proofs.writing.check_with.Tie as tie
 
@@ -24,18 +24,18 @@ abbrev μ-loop : tie.MeasureT-loop
 loop-holds : tie.Need-loop-holds Inv-loop μ-loop
 loop-holds c =
     let xs = now (c .before .before .args .numbers) in
-    (record { judged = ap (λ (ds : List ℕ). judge start ds (ofNumbers xs)) (c .before .before .pre); size = omega arith }, refl, omega arith, omega arith)
+    (record { judged = ap (λ (ds : List ℕ). refusalFrom start ds (ofNumbers xs)) (c .before .before .pre); size = omega arith }, refl, omega arith, omega arith)
 
 loop-again : tie.Need-loop-again Inv-loop μ-loop
 loop-again c =
     let l = c .before .before .before .before .before .before .before .before .before .before .loop in
     let xs = now (c .before .before .before .before .before .before .before .before .before .before .before .before .before .args .numbers) in
     let st = c .before .before .before .before .before .before .before .state .given in
-    let done = c .before .before .before .step .ensures in (
+    let done = c .before .before .before .advance .ensures in (
       rw (done .0, done .1, c .size .ensures .0)
           (going-on (st .0 .0) (st .0 .1 .0) (getD xs (l .k) 0) (ofNumbers (drop (l .k + 1) xs)) (encode (getD xs (l .k) 0)) (bytesOf (drop (l .k + 1) xs)) (st .1)
           (items-next xs (l .k) (omega arith)) (bytes-next xs (l .k) (omega arith)) (l .inv .0)),
-      rw (done .1) (step-length _ _ _ _ ∙ l .inv .1),
+      rw (done .1) (advance-length _ _ _ _ ∙ l .inv .1),
       omega arith,
       omega (arith, l .inv .3, c .size .ensures .1),
     )

@@ -5,7 +5,7 @@ use lib.ListN.{length, drop, getD, length-append}
 use denote.Ref.{now}
 use Rattle.groups.specs.Groups.{encode}
 use Rattle.groups.specs.Storing.{Storing, storing-none, storing-part, storing-done}
-use Rattle.sheet.specs.Judge.{bytesOf}
+use Rattle.sheet.specs.Sources.{bytesOf}
 use Rattle.sheet.specs.Turns.{bytes-next, bytes-end}
 use Rattle.sheet.proofs.writing.put_bytes.Statement.{statement}
 use Rattle.sheet.proofs.writing.put_bytes.Tie as tie

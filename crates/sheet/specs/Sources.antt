@@ -1,4 +1,4 @@
--- A source of numbers, bytes or a list, judged: 0 where it is a sheet, and else the number of its refusal; and what reading and writing give.
+-- A source of numbers, bytes or a list: 0 where it is a sheet, and else the number of its refusal; and what reading and writing give.
 -- Assumes nothing.
 use mathlib.Core.Path.{_≡_}
 use mathlib.Core.List.{List, [], _∷_, _++_, map}
@@ -10,7 +10,7 @@ use Rattle.groups.specs.Groups.{numberAt, encode}
 use Rattle.groups.specs.declared.groups.Number.{Number}
 use Rattle.groups.specs.declared.groups.Number.the-variants.{Value, Ended, IllFormed}
 use Rattle.limits.specs.Refusals.{ENDS-INSIDE, ILL-FORMED, OUT-OF-RANGE, OUT-OF-ORDER, SURPLUS, TOO-SHORT}
-use Rattle.grammar.specs.Grammar.{step, start, noCounts, atEnd}
+use Rattle.grammar.specs.Grammar.{advance, start, noCounts, atEnd}
 use Rattle.grammar.specs.declared.grammar.Expected.{Expected}
 use Rattle.grammar.specs.declared.grammar.State.{State}
 use Rattle.grammar.specs.declared.grammar.State.the-variants.{Wants, Complete, OutOfRange, OutOfOrder}
@@ -36,15 +36,15 @@ meets OutOfRange judged = OUT-OF-RANGE
 meets OutOfOrder judged = OUT-OF-ORDER
 
 -- Item after item from a state on, with the counts ds of the fields so far: the first faulty one decides.
-unfoldable pub judge : State → List ℕ → List Item → ℕ
-judge st ds [] = atEnd st
-judge st ds (num x ∷ is) = meets st (λ n e. judge (step n e ds x .0) (step n e ds x .1) is)
-judge st ds (cut ∷ is) = meets st (λ n e. numberRefusal Ended)
-judge st ds (ill ∷ is) = meets st (λ n e. numberRefusal IllFormed)
+unfoldable pub refusalFrom : State → List ℕ → List Item → ℕ
+refusalFrom st ds [] = atEnd st
+refusalFrom st ds (num x ∷ is) = meets st (λ n e. refusalFrom (advance n e ds x .0) (advance n e ds x .1) is)
+refusalFrom st ds (cut ∷ is) = meets st (λ n e. numberRefusal Ended)
+refusalFrom st ds (ill ∷ is) = meets st (λ n e. numberRefusal IllFormed)
 
 -- the number of a source's refusal, from its beginning on: 0 where it is a sheet
 abbrev pub refusal : List Item → ℕ
-refusal is = judge start noCounts is
+refusal is = refusalFrom start noCounts is
 
 -- the numbers of a source, up to what is none
 unfoldable pub numbers : List Item → List ℕ
@@ -96,34 +96,34 @@ abbrev pub checked : List Item → List ℕ → Answer
 checked is values = answered (refusal is) (length values)
 
 -- An answer, and what the output holds after the call.
-pub record Outcome : Type 0 where
+pub record Produced : Type 0 where
   pub answer : Answer
   pub output : List ℕ
 
 -- a refusal leaves the output as it was
-abbrev pub refusing : ℕ → List ℕ → Outcome
+abbrev pub refusing : ℕ → List ℕ → Produced
 refusing number before = record { answer = answered number 0; output = before }
 
 -- the values in front; places past them are untouched
-abbrev pub giving : List ℕ → List ℕ → Outcome
+abbrev pub giving : List ℕ → List ℕ → Produced
 giving values before = record { answer = answered 0 (length values); output = values ++ drop (length values) before }
 
 -- checks 1 to 5 come first, and 6 last
-abbrev pub outcome : (number : ℕ) (values before : List ℕ) → Outcome
-outcome number values before =
+abbrev pub produced : (number : ℕ) (values before : List ℕ) → Produced
+produced number values before =
     pick (eqb number 0)
     (pick (leb (length values) (length before)) (giving values before) (refusing TOO-SHORT before))
     (refusing number before)
 
 -- Reading the bytes s to a list of numbers, over the output `before`.
-abbrev pub reading : List ℕ → List ℕ → Outcome
-reading s before = outcome (refusal (ofBytes s)) (numbers (ofBytes s)) before
+abbrev pub reading : List ℕ → List ℕ → Produced
+reading s before = produced (refusal (ofBytes s)) (numbers (ofBytes s)) before
 
 -- Writing the numbers xs as bytes.
-abbrev pub writing : List ℕ → List ℕ → Outcome
-writing xs before = outcome (refusal (ofNumbers xs)) (bytesOf xs) before
+abbrev pub writing : List ℕ → List ℕ → Produced
+writing xs before = produced (refusal (ofNumbers xs)) (bytesOf xs) before
 
--- A call's answer and its output afterwards are those of an outcome.
-pub record Gives (o : Outcome) (answer : Answer) (after : List ℕ) : Type 0 where
+-- A call's answer and its output afterwards are those that are produced.
+pub record Gives (o : Produced) (answer : Answer) (after : List ℕ) : Type 0 where
   pub answers : answer ≡ o .answer
   pub outputs : after ≡ o .output

@@ -1,7 +1,7 @@
 use Rattle.ledger.specs.Kinds.{change-choose, change-strike, change-withdraw-choice, change-withdraw-strike, change-none}
 use borrow.Author.Needs.{needs}
-use Rattle.session.proofs.decisions.change.Statement.{statement}
-use Rattle.session.proofs.decisions.change.Tie as tie
+use Rattle.session.proofs.decisions.apply.Statement.{statement}
+use Rattle.session.proofs.decisions.apply.Tie as tie
 
 cast-f : tie.Need-cast-f
 cast-f c = search needs
@@ -36,8 +36,8 @@ returns-4 c = rw (change-withdraw-strike _ _ _ (c .before .match .keys4)) (c .wi
 returns-5 : tie.Need-returns-5
 returns-5 c = let n = c .match .rest in rw (change-none _ _ _ (n .0 .0 .0 .1) (n .0 .0 .1) (n .0 .1) (n .1))
 
-pub change-spec : {M : Type 1} → statement M
-change-spec =
+pub apply-spec : {M : Type 1} → statement M
+apply-spec =
     tie.close
     (tie.spec
     cast-f
