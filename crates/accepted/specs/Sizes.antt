@@ -88,7 +88,7 @@ sized-rises floor xs rises-none = sized-none
 sized-rises floor xs (rises-one {x = x} {xs = ys} p q t) =
     sized-more (3 + 3 * length ys) (suc (length ys)) _ _ (x ∷ ys) (omega arith) (omega arith) (sized-one 3 _ _ x ys (groups-three x (omega arith)) (omega arith) (sized-rises (x + 1) ys t))
 
-sized-below : (b : ℕ) (xs : List ℕ) → b ≤ 2 ^ 24 → Below b xs → Sized (4 * length xs) (length xs) xs
+sized-below : (b : ℕ) (xs : List ℕ) → b ≤ 2 ^ mostSettings → Below b xs → Sized (4 * length xs) (length xs) xs
 sized-below b xs h below-none = sized-none
 sized-below b xs h (below-one {x = x} {xs = ys} p t) =
     sized-more (4 + 4 * length ys) (suc (length ys)) _ _ (x ∷ ys) (omega arith) (omega arith) (sized-one 4 _ _ x ys (groups-le x) (omega arith) (sized-below b ys h t))
@@ -103,12 +103,12 @@ sized-fields (f ∷ fs) h =
     (sized-one 1 _ _ (length f) _ (omega (arith, size-1 (length f) (omega arith))) (omega arith)
     (sized-append _ _ _ _ f (fieldsNumbers fs) (sized-rises 0 f (g .rise)) (sized-fields fs (λ k l. h (suc k) (omega arith)))))
 
-sized-values : (n : ℕ) (d : ℕ → ℕ) (r : Rule) → ((k : ℕ) → k < n → d k ≤ mostSettings) → r .i < n → r .j < n → ValuesRight d r → Sized 96 24 (r .values)
+sized-values : (n : ℕ) (d : ℕ → ℕ) (r : Rule) → ((k : ℕ) → k < n → d k ≤ mostSettings) → r .i < n → r .j < n → ValuesRight d r → Sized (4 * mostSettings) mostSettings (r .values)
 sized-values n d r h p q (inl v) =
     let a = h (r .i) p in
-    sized-more (4 * length (r .values)) (length (r .values)) 96 24 _ (omega (arith, v .1)) (omega (arith, v .1)) (sized-below (2 ^ d (r .j)) (r .values) (pow-mono (h (r .j) q)) (v .2))
+    sized-more (4 * length (r .values)) (length (r .values)) (4 * mostSettings) mostSettings _ (omega (arith, v .1)) (omega (arith, v .1)) (sized-below (2 ^ d (r .j)) (r .values) (pow-mono (h (r .j) q)) (v .2))
 sized-values n d r h p q (inr v) =
-    sized-more (4 * length (r .values)) (length (r .values)) 96 24 _ (omega (arith, v .1)) (omega (arith, v .1)) (sized-below (largestSetting + 1) (r .values) (omega arith) (v .2))
+    sized-more (4 * length (r .values)) (length (r .values)) (4 * mostSettings) mostSettings _ (omega (arith, v .1)) (omega (arith, v .1)) (sized-below (largestSetting + 1) (r .values) (omega arith) (v .2))
 
 sized-rules : (n floor : ℕ) (d : ℕ → ℕ) (rs : List Rule) → n ≤ mostFields → ((k : ℕ) → k < n → d k ≤ mostSettings) → Ruled n d floor rs → Sized (99 * length rs) (27 * length rs) (rulesNumbers rs)
 unfolding rulesNumbers
@@ -117,7 +117,7 @@ sized-rules n floor d rs m h (ruled-one {r = r} {rs = ts} l g t) =
     let a = g .apart in
     let b = g .within in
     let k = g .kind-le in
-    sized-more (1 + (1 + (1 + (96 + 99 * length ts)))) (suc (suc (suc (24 + 27 * length ts)))) _ _ _ (omega arith) (omega arith)
+    sized-more (1 + (1 + (1 + (4 * mostSettings + 99 * length ts)))) (suc (suc (suc (mostSettings + 27 * length ts)))) _ _ _ (omega arith) (omega arith)
     (sized-one 1 _ _ (r .i) _ (omega (arith, size-1 (r .i) (omega arith))) (omega arith)
     (sized-one 1 _ _ (r .j) _ (omega (arith, size-1 (r .j) (omega arith))) (omega arith)
     (sized-one 1 _ _ (r .kind) _ (omega (arith, size-1 (r .kind) (omega arith))) (omega arith)

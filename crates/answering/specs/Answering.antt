@@ -101,19 +101,19 @@ module _ (c : Call) (s : Session) (sheet : List ℕ) (engine : ℕ) (order : Lis
         pub is-order : isOrder (outlineOf ys .fields) order ≡ true
         is-order = not-back _ (clear (outlineOf ys) c engine order (view s) v .of-order .1 .0)
 
-        module _ (d : Sized s) (w : Bool) (left : Spaces) (p : Settled ys (view (stepped c s)) (lent .offers) w (left .offers)) where
-          same-step : SameLedger (view (stepped c s)) (step c (view s))
-          same-step = shows-step ys (bytes-accepted sheet z) engine order s c d (clear (outlineOf ys) c engine order (view s) v)
+        module _ (d : Sized s) (t : Session) (q : t ≡ stepped c s) (w : Bool) (left : Spaces) (p : Settled ys (view t) (lent .offers) w (left .offers)) where
+          same-step : SameLedger (view t) (step c (view s))
+          same-step = rw q (shows-step ys (bytes-accepted sheet z) engine order s c d (clear (outlineOf ys) c engine order (view s) v))
 
           wipes : w ≡ wiped ys (step c (view s))
-          wipes = p .wipes ∙ alike-wiped (view (stepped c s)) (step c (view s)) ys (same-step .held)
+          wipes = p .wipes ∙ alike-wiped (view t) (step c (view s)) ys (same-step .held)
 
           pub answers-wiped : w ≡ true → Answers c s sheet engine order lent WIPED-OUT s left
           answers-wiped y = answers-by WIPED-OUT s left (rw (p .offers ∙ pick-true _ _ _ y)
               (result-refused WIPED-OUT (λ q. omega arith) (number-offers g c (view s) long z v (first-applies _ _ _ (sym wipes ∙ y)))))
 
-          pub answers-accepted : w ≡ false → Answers c s sheet engine order lent 0 (stepped c s) left
+          pub answers-accepted : w ≡ false → Answers c s sheet engine order lent 0 t left
           answers-accepted n =
-              answers-by 0 (stepped c s) left
-              (rw (p .offers ∙ pick-false _ _ _ n, alike-offers (view (stepped c s)) (step c (view s)) ys (same-step .held))
+              answers-by 0 t left
+              (rw (p .offers ∙ pick-false _ _ _ n, alike-offers (view t) (step c (view s)) ys (same-step .held), q)
               (result-accepted (sym (number-offers g c (view s) long z v (first-next _ _ _ (sym wipes ∙ n) first-end)))))

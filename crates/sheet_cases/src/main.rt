@@ -3,7 +3,11 @@ ghost use mathlib.Core.Path.{_≡_};
 ghost use lib.ListN.{length};
 use libc::STDOUT_FILENO;
 use limits::MOST_BYTES;
+use limits::MOST_FIELDS;
 use limits::MOST_NUMBERS;
+use limits::MOST_RULES;
+use limits::MOST_SETTINGS;
+use limits::WHOLE_REACH;
 use sheet::reading::read;
 use sheet::writing::write;
 
@@ -83,9 +87,9 @@ fn push(numbers: &mut [u32], k: usize, x: u32) -> usize
 fn push_field(numbers: &mut [u32], start: usize) -> usize
     ensures { λ _. ⌜ length (now (numbers .exit)) ≡ length (now (numbers .entry)) ⌝ }
 {
-    let mut k = push(numbers, start, 24);
+    let mut k = push(numbers, start, MOST_SETTINGS);
     let mut v: u32 = 0;
-    while v < 24 {
+    while v < MOST_SETTINGS {
         k = push(numbers, k, 65512 + v);
         v += 1;
     }
@@ -95,9 +99,9 @@ fn push_field(numbers: &mut [u32], start: usize) -> usize
 fn push_fields(numbers: &mut [u32], start: usize) -> usize
     ensures { λ _. ⌜ length (now (numbers .exit)) ≡ length (now (numbers .entry)) ⌝ }
 {
-    let mut k = push(numbers, start, 24);
+    let mut k = push(numbers, start, MOST_FIELDS);
     let mut f: u32 = 0;
-    while f < 24 {
+    while f < MOST_FIELDS {
         k = push_field(numbers, k);
         f += 1;
     }
@@ -112,12 +116,15 @@ fn push_rule(numbers: &mut [u32], start: usize, i: u32, j: u32) -> usize
     k = push(numbers, k, j);
     k = push(numbers, k, 0);
     let mut a: u32 = 0;
-    while a < 24 {
+    while a < MOST_SETTINGS {
         k = push(numbers, k, 16777215);
         a += 1;
     }
     k
 }
+
+// Pairs of fields, in any order.
+const PAIRS: u32 = MOST_FIELDS * MOST_FIELDS;
 
 // The rule of a pair of fields, where i is below j.
 fn push_pair(numbers: &mut [u32], start: usize, i: u32, j: u32) -> usize
@@ -132,10 +139,10 @@ fn push_pair(numbers: &mut [u32], start: usize, i: u32, j: u32) -> usize
 fn push_rules(numbers: &mut [u32], start: usize) -> usize
     ensures { λ _. ⌜ length (now (numbers .exit)) ≡ length (now (numbers .entry)) ⌝ }
 {
-    let mut k = push(numbers, start, 276);
+    let mut k = push(numbers, start, MOST_RULES);
     let mut pair: u32 = 0;
-    while pair < 576 {
-        k = push_pair(numbers, k, pair / 24, pair % 24);
+    while pair < PAIRS {
+        k = push_pair(numbers, k, pair / MOST_FIELDS, pair % MOST_FIELDS);
         pair += 1;
     }
     k
@@ -145,7 +152,7 @@ fn push_rules(numbers: &mut [u32], start: usize) -> usize
 fn largest_case() {
     let mut numbers = [0u32; MOST_NUMBERS];
     let fields = push_fields(&mut numbers, 0);
-    let reach = push(&mut numbers, fields, 24);
+    let reach = push(&mut numbers, fields, WHOLE_REACH);
     push_rules(&mut numbers, reach);
     let mut sheet = [0u8; MOST_BYTES];
     let written = write(&numbers, &mut sheet);

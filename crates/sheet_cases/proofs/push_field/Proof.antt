@@ -2,6 +2,7 @@ use mathlib.Core.Path.{_≡_, refl}
 use Prim.Native.Nat.{_-_}
 use native.Mathlib.Omega.{arith}
 use lib.ListN.{length}
+use Rattle.limits.specs.Limits.{mostSettings}
 use borrow.Author.Needs.{needs}
 use Rattle.sheet_cases.proofs.push_field.Statement.{statement}
 use Rattle.sheet_cases.proofs.push_field.Tie as tie
@@ -10,7 +11,7 @@ abbrev Inv-loop : tie.InvT-loop
 Inv-loop numbers₀ start k₀ v₀ numbers k v = length numbers ≡ length numbers₀
 
 abbrev μ-loop : tie.MeasureT-loop
-μ-loop numbers₀ start k₀ v₀ numbers k v = 24 - v
+μ-loop numbers₀ start k₀ v₀ numbers k v = mostSettings - v
 
 pub push-field-spec : {M : Type 1} → statement M
 push-field-spec =

@@ -2,6 +2,7 @@ use mathlib.Core.Path.{_≡_, refl}
 use Prim.Native.Nat.{_-_}
 use native.Mathlib.Omega.{arith}
 use lib.ListN.{length}
+use Rattle.limits.specs.Limits.{mostFields}
 use borrow.Author.Needs.{needs}
 use Rattle.sheet_cases.proofs.push_fields.Statement.{statement}
 use Rattle.sheet_cases.proofs.push_fields.Tie as tie
@@ -10,7 +11,7 @@ abbrev Inv-loop : tie.InvT-loop
 Inv-loop numbers₀ start k₀ f₀ numbers k f = length numbers ≡ length numbers₀
 
 abbrev μ-loop : tie.MeasureT-loop
-μ-loop numbers₀ start k₀ f₀ numbers k f = 24 - f
+μ-loop numbers₀ start k₀ f₀ numbers k f = mostFields - f
 
 pub push-fields-spec : {M : Type 1} → statement M
 push-fields-spec =

@@ -2,6 +2,7 @@ use mathlib.Core.Path.{_≡_, refl}
 use Prim.Native.Nat.{_-_}
 use native.Mathlib.Omega.{arith}
 use lib.ListN.{length}
+use Rattle.limits.specs.Limits.{mostSettings}
 use borrow.Author.Needs.{needs}
 use Rattle.sheet_cases.proofs.push_rule.Statement.{statement}
 use Rattle.sheet_cases.proofs.push_rule.Tie as tie
@@ -10,7 +11,7 @@ abbrev Inv-loop : tie.InvT-loop
 Inv-loop numbers₀ start i j k₀ a₀ numbers k a = length numbers ≡ length numbers₀
 
 abbrev μ-loop : tie.MeasureT-loop
-μ-loop numbers₀ start i j k₀ a₀ numbers k a = 24 - a
+μ-loop numbers₀ start i j k₀ a₀ numbers k a = mostSettings - a
 
 pub push-rule-spec : {M : Type 1} → statement M
 push-rule-spec =

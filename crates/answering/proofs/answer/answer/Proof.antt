@@ -1,5 +1,7 @@
 use mathlib.Core.Path.{_≡_, refl, sym, ap, _∙_}
 use mathlib.Core.Bool.{true, false}
+use mathlib.Core.List.{List}
+use Prim.Native.Nat.{ℕ}
 use lib.ListN.{length, length-map, take}
 use lib.Seq.{length-take-le}
 use denote.Ref.{now}
@@ -7,13 +9,14 @@ use Rattle.sheet.specs.Sources.{refusal, numbers, ofBytes, Accepted}
 use Rattle.accepted.specs.declared.outline.Outline.{Outline}
 use Rattle.accepted.specs.Accept.{bytes-accepted}
 use Rattle.accepted.specs.Outline.{outlineOf}
-use Rattle.ledger.specs.Ledger.{first, judged, isOrder}
+use Rattle.ledger.specs.Ledger.{Cause, first, judged, isOrder}
 use Rattle.session.specs.View.{view, Sized}
 use Rattle.session.specs.Steps.{StepAsks}
 use Rattle.answering.specs.Answer.{Spaces, spaces}
 use Rattle.answering.specs.Intake.{TakenIn}
 use Rattle.answering.specs.Settle.{Prepared}
-use Rattle.answering.specs.Answering.{shortBy, Roomy, roomy, answers-short, answers-sheet, answers-judged, takes-step, is-order, answers-wiped, answers-accepted}
+use Rattle.answering.specs.Answering.{shortBy, Roomy, roomy, answers-short, answers-sheet, answers-judged, takes-step, is-order}
+use Rattle.answering.specs.Answering.{answers-wiped, answers-accepted}
 use borrow.Author.Needs.{needs}
 use Rattle.answering.proofs.answer.answer.Statement.{statement}
 use Rattle.answering.proofs.answer.answer.Tie as tie
@@ -23,52 +26,64 @@ abbrev lent : tie.Start → Spaces
 lent s = spaces (now (s .args .offers)) (now (s .args .rows)) (now (s .args .memory))
 
 -- 6 does not apply
-short : (c : tie.Else1) → false ≡ shortBy (length (lent (c .before .before .before .before .before .before .before) .offers)) (length (lent (c .before .before .before .before .before .before .before) .rows)) (length (lent (c .before .before .before .before .before .before .before) .memory))
+short : (c : tie.Else1) → let s = c .before .before .before .before .before .before .before in
+    false ≡ shortBy (length (lent s .offers)) (length (lent s .rows)) (length (lent s .memory))
 short c = sym (c .if1 .left) ∙ c .before .too-short .ensures
 
-room : (c : tie.Else1) → Roomy (length (lent (c .before .before .before .before .before .before .before) .offers)) (length (lent (c .before .before .before .before .before .before .before) .rows)) (length (lent (c .before .before .before .before .before .before .before) .memory))
+room : (c : tie.Else1) → let s = c .before .before .before .before .before .before .before in Roomy (length (lent s .offers)) (length (lent s .rows)) (length (lent s .memory))
 room c = let s = c .before .before .before .before .before .before .before in roomy (length (lent s .offers)) (length (lent s .rows)) (length (lent s .memory)) (sym (short c))
 
 -- 1 to 5 do not apply: the sheet is taken in
-taken : (c : tie.Else2) → TakenIn (now (c .before .before .before .before .before .before .before .before .before .before .before .before .before .args .sheet)) (c .before .before .before .before .take-in .result) (c .before .before .before .before .take-in .last .1 .0)
+abbrev sheet : tie.Else2 → List ℕ
+sheet c = let y = c .before .before .before .before .before .before in now (y .before .before .before .before .before .before .before .args .sheet)
+
+taken : (c : tie.Else2) → let r = c .before .before .before .before .take-in in TakenIn (sheet c) (r .result) (r .last .1 .0)
 taken c = c .before .before .before .before .take-in .ensures
 
-unrefused : (c : tie.Else2) → refusal (ofBytes (now (c .before .before .before .before .before .before .before .before .before .before .before .before .before .args .sheet))) ≡ 0
+unrefused : (c : tie.Else2) → refusal (ofBytes (sheet c)) ≡ 0
 unrefused c = sym (taken c .number) ∙ c .if2 .left
 
-front-accepted : (c : tie.Else2) → Accepted (take (c .before .before .before .before .take-in .result .length) (c .before .before .before .before .take-in .last .1 .0))
-front-accepted c = rw (taken c .front (c .if2 .left)) (bytes-accepted (now (c .before .before .before .before .before .before .before .before .before .before .before .before .before .args .sheet)) (unrefused c))
+front-accepted : (c : tie.Else2) → let r = c .before .before .before .before .take-in in Accepted (take (r .result .length) (r .last .1 .0))
+front-accepted c = rw (taken c .front (c .if2 .left)) (bytes-accepted (sheet c) (unrefused c))
 
 -- the cause among 15 and 7 to 13
-judged-by : (c : tie.After-judge) → let s = c .before .before .before .before .before .before .before .before .before .before .before .before .before .before .before in
-    c .judge .result ≡ first (judged (outlineOf (numbers (ofBytes (now (s .args .sheet))))) (s .args .call) (s .args .engine) (now (s .args .order)) (view (s .args .session)))
-judged-by c = rw (taken (c .before .before) .outline (c .before .before .if2 .left)) at (c .judge .ensures)
+abbrev causes : tie.Else2 → List Cause
+causes x =
+    let y = x .before .before .before .before .before .before in
+    let s = y .before .before .before .before .before .before .before in
+    judged (outlineOf (numbers (ofBytes (sheet x)))) (s .args .call) (s .args .engine) (now (s .args .order)) (view (s .args .session))
 
-no-cause : (c : tie.Else3) → let s = c .before .before .before .before .before .before .before .before .before .before .before .before .before .before .before .before in
-    first (judged (outlineOf (numbers (ofBytes (now (s .args .sheet))))) (s .args .call) (s .args .engine) (now (s .args .order)) (view (s .args .session))) ≡ 0
+judged-by : (c : tie.After-judge) → c .judge .result ≡ first (causes (c .before .before))
+judged-by c = let x = c .before .before in rw (taken x .outline (x .if2 .left)) at (c .judge .ensures)
+
+no-cause : (c : tie.Else3) → first (causes (c .before .before .before)) ≡ 0
 no-cause c = sym (judged-by (c .before)) ∙ c .if3 .left
 
-steps : (c : tie.Else3) → StepAsks (c .before .before .before .before .before .before .before .before .before .before .before .before .before .before .before .before .args .call) (c .before .before .before .before .before .before .before .before .before .before .before .before .before .before .before .before .args .session)
+steps : (c : tie.Else3) → let x = c .before .before .before in let y = x .before .before .before .before .before .before in let s = y .before .before .before .before .before .before .before in StepAsks (s .args .call) (s .args .session)
 steps c =
-    let s = c .before .before .before .before .before .before .before .before .before .before .before .before .before .before .before .before in
-    takes-step (s .args .call) (s .args .session) (now (s .args .sheet)) (s .args .engine) (now (s .args .order)) (lent s)
-    (short (c .before .before .before .before .before .before .before .before .before)) (unrefused (c .before .before .before)) (no-cause c)
+    let x = c .before .before .before in
+    let y = x .before .before .before .before .before .before in
+    let s = y .before .before .before .before .before .before .before in
+    takes-step (s .args .call) (s .args .session) (sheet x) (s .args .engine) (now (s .args .order)) (lent s) (short y) (unrefused x) (no-cause c)
 
-ordered : (c : tie.Else3) → isOrder (c .before .before .before .before .before .before .before .take-in .result .outline .fields) (now (c .before .before .before .before .before .before .before .before .before .before .before .before .before .before .before .before .args .order)) ≡ true
+ordered : (c : tie.Else3) → let x = c .before .before .before in let y = x .before .before .before .before .before .before in let s = y .before .before .before .before .before .before .before in
+    isOrder (x .before .before .before .before .take-in .result .outline .fields) (now (s .args .order)) ≡ true
 ordered c =
-    let s = c .before .before .before .before .before .before .before .before .before .before .before .before .before .before .before .before in
-    rw (taken (c .before .before .before) .outline (c .before .before .before .if2 .left))
-    (is-order (s .args .call) (s .args .session) (now (s .args .sheet)) (s .args .engine) (now (s .args .order)) (lent s)
-    (short (c .before .before .before .before .before .before .before .before .before)) (unrefused (c .before .before .before)) (no-cause c))
+    let x = c .before .before .before in
+    let y = x .before .before .before .before .before .before in
+    let s = y .before .before .before .before .before .before .before in
+    rw (taken x .outline (x .if2 .left))
+    (is-order (s .args .call) (s .args .session) (sheet x) (s .args .engine) (now (s .args .order)) (lent s) (short y) (unrefused x) (no-cause c))
 
 -- the outline and the network are the sheet's
-prepared : (c : tie.After-build) → Prepared (numbers (ofBytes (now (c .before .before .before .before .before .before .before .before .before .before .before .before .before .before .before .before .before .before .before .args .sheet)))) (c .before .before .before .before .before .before .before .before .before .before .take-in .result .outline) (c .build .result) (c .build .last .1 .0)
+prepared : (c : tie.After-build) → let x = c .before .before .before .before .before .before in
+    Prepared (numbers (ofBytes (sheet x))) (x .before .before .before .before .take-in .result .outline) (c .build .result) (c .build .last .1 .0)
 prepared c =
-    let a = c .before .before .before .before .before .before in
+    let x = c .before .before .before .before .before .before in
     record {
-      accepted = bytes-accepted (now (c .before .before .before .before .before .before .before .before .before .before .before .before .before .before .before .before .before .before .before .args .sheet)) (unrefused a);
-      outline = taken a .outline (a .if2 .left);
-      network = rw (taken a .front (a .if2 .left)) at (c .build .ensures);
+      accepted = bytes-accepted (sheet x) (unrefused x);
+      outline = taken x .outline (x .if2 .left);
+      network = rw (taken x .front (x .if2 .left)) at (c .build .ensures);
     }
 
 -- the lengths of the session's arrays
@@ -79,7 +94,8 @@ too-short-requires : tie.Need-too-short-requires
 too-short-requires c κs = search needs
 
 returns : tie.Need-returns
-returns c = answers-short _ _ _ _ _ (lent (c .before .before .before .before .before .before .before)) (sym (c .if1 .taken) ∙ c .before .too-short .ensures)
+returns c =
+    answers-short _ _ _ _ _ (lent (c .before .before .before .before .before .before .before)) (sym (c .if1 .taken) ∙ c .before .too-short .ensures)
 
 take-in-requires : tie.Need-take-in-requires
 take-in-requires c κs = room (c .before) .sheet-room
@@ -88,7 +104,9 @@ same-length : tie.Need-same-length
 same-length c = search needs
 
 returns-2 : tie.Need-returns-2
-returns-2 c = answers-sheet _ _ _ _ _ (lent (c .before .before .before .before .before .before .before .before .before .before .before .before .before)) (short (c .before .before .before .before .before .before)) _ _ refl (c .if2 .taken) (c .before .before .before .before .take-in .ensures .number)
+returns-2 c =
+    let y = c .before .before .before .before .before .before in
+    answers-sheet _ _ _ _ _ (lent (y .before .before .before .before .before .before .before)) (short y) _ _ refl (c .if2 .taken) (c .before .before .before .before .take-in .ensures .number)
 
 judge-requires : tie.Need-judge-requires
 judge-requires c κs = search needs
@@ -97,13 +115,18 @@ same-length-2 : tie.Need-same-length-2
 same-length-2 c = search needs
 
 returns-3 : tie.Need-returns-3
-returns-3 c = answers-judged _ _ _ _ _ (lent (c .before .before .before .before .before .before .before .before .before .before .before .before .before .before .before .before)) (short (c .before .before .before .before .before .before .before .before .before)) (unrefused (c .before .before .before)) _ _ refl (c .if3 .taken) (judged-by (c .before))
+returns-3 c =
+    let x = c .before .before .before in
+    let y = x .before .before .before .before .before .before in
+    answers-judged _ _ _ _ _ (lent (y .before .before .before .before .before .before .before)) (short y) (unrefused x) _ _ refl (c .if3 .taken) (judged-by (c .before))
 
 slice-reshare-prefix-build : tie.Need-slice-reshare-prefix-build
-slice-reshare-prefix-build c = taken (c .before .before .before) .ends (c .before .before .before .if2 .left)
+slice-reshare-prefix-build c =
+    let x = c .before .before .before in taken x .ends (x .if2 .left)
 
 slice-aggregate-build : tie.Need-slice-aggregate-build
-slice-aggregate-build c = sym (length-take-le _ _ (taken (c .before .before .before .before) .ends (c .before .before .before .before .if2 .left)))
+slice-aggregate-build c =
+    let x = c .before .before .before .before in sym (length-take-le _ _ (taken x .ends (x .if2 .left)))
 
 build-requires : tie.Need-build-requires
 build-requires c κs = (front-accepted (c .before .before .before .before .before), room (c .before .before .before .before .before .before .before .before .before .before .before) .rows-room)
@@ -113,16 +136,17 @@ step-requires c κs = steps (c .before .before .before .before .before)
 
 settle-requires : tie.Need-settle-requires
 settle-requires c κs =
-    let a = c .before .before .before .before .before .before .before .before .before in
     let b = c .before .before .before .before .before .before in
-    let r = room (a .before .before .before .before .before .before .before .before .before) in
+    let a = b .before .before .before in
+    let x = a .before .before .before in
+    let r = room (x .before .before .before .before .before .before) in
     record {
-      sheet = numbers (ofBytes (now (a .before .before .before .before .before .before .before .before .before .before .before .before .before .before .before .before .args .sheet)));
+      sheet = numbers (ofBytes (sheet x));
       prepared = prepared b;
       ordered = ordered a;
       offers-room = r .offers-room;
       rows-room = rw (b .build .kept .1 .0) (r .rows-room);
-      memory-room = rw (a .before .before .before .before .before .before .before .take-in .kept .1 .0) (r .memory-room);
+      memory-room = rw (x .before .before .before .before .take-in .kept .1 .0) (r .memory-room);
     }
 
 same-length-3 : tie.Need-same-length-3
@@ -132,14 +156,23 @@ same-length-4 : tie.Need-same-length-4
 same-length-4 c = search needs
 
 same-length-5 : tie.Need-same-length-5
-same-length-5 c = c .before .before .before .before .before .settle .kept .1 .1 .1 .1 .1 .1 .1 .0 ∙ c .before .before .before .before .before .before .before .before .before .before .before .before .before .before .before .before .before .before .before .before .before .before .take-in .kept .1 .0
+same-length-5 c =
+    let d = c .before .before .before .before .before in
+    let e = d .before .before .before .before in
+    let b = e .before .before .before in
+    let a = b .before .before .before in
+    d .settle .kept .1 .1 .1 .1 .1 .1 .1 .0 ∙ a .before .before .before .before .before .before .before .take-in .kept .1 .0
 
 returns-4 : tie.Need-returns-4
 returns-4 c =
-    let a = c .before .before .before .before .before .before .before .before .before .before .before .before .before .before .before in
-    let s = a .before .before .before .before .before .before .before .before .before .before .before .before .before .before .before .before in
-    let p = c .before .before .before .before .before .settle .ensures _ (prepared (c .before .before .before .before .before .before .before .before .before .before .before .before)) in
-    answers-wiped _ _ _ _ _ (lent s) (short (a .before .before .before .before .before .before .before .before .before)) (unrefused (a .before .before .before)) (no-cause a) (sized s) _ _ (rw (c .before .before .before .before .before .before .before .before .before .step .ensures) at p) (c .if4 .taken)
+    let d = c .before .before .before .before .before in
+    let e = d .before .before .before .before in
+    let b = e .before .before .before in
+    let a = b .before .before .before in
+    let x = a .before .before .before in
+    let y = x .before .before .before .before .before .before in
+    let s = y .before .before .before .before .before .before .before in
+    answers-wiped _ _ _ _ _ (lent s) (short y) (unrefused x) (no-cause a) (sized s) _ (e .step .ensures) _ _ (d .settle .ensures _ (prepared b)) (c .if4 .taken)
 
 same-length-6 : tie.Need-same-length-6
 same-length-6 c = search needs
@@ -148,15 +181,23 @@ same-length-7 : tie.Need-same-length-7
 same-length-7 c = search needs
 
 same-length-8 : tie.Need-same-length-8
-same-length-8 c = c .before .before .before .before .before .settle .kept .1 .1 .1 .1 .1 .1 .1 .0 ∙ c .before .before .before .before .before .before .before .before .before .before .before .before .before .before .before .before .before .before .before .before .before .before .take-in .kept .1 .0
+same-length-8 c =
+    let d = c .before .before .before .before .before in
+    let e = d .before .before .before .before in
+    let b = e .before .before .before in
+    let a = b .before .before .before in
+    d .settle .kept .1 .1 .1 .1 .1 .1 .1 .0 ∙ a .before .before .before .before .before .before .before .take-in .kept .1 .0
 
 returns-5 : tie.Need-returns-5
 returns-5 c =
-    let a = c .before .before .before .before .before .before .before .before .before .before .before .before .before .before .before in
-    let s = a .before .before .before .before .before .before .before .before .before .before .before .before .before .before .before .before in
-    let p = c .before .before .before .before .before .settle .ensures _ (prepared (c .before .before .before .before .before .before .before .before .before .before .before .before)) in
-    rw (c .before .before .before .before .before .before .before .before .before .step .ensures)
-    (answers-accepted _ _ _ _ _ (lent s) (short (a .before .before .before .before .before .before .before .before .before)) (unrefused (a .before .before .before)) (no-cause a) (sized s) _ _ (rw (c .before .before .before .before .before .before .before .before .before .step .ensures) at p) (c .if4 .left))
+    let d = c .before .before .before .before .before in
+    let e = d .before .before .before .before in
+    let b = e .before .before .before in
+    let a = b .before .before .before in
+    let x = a .before .before .before in
+    let y = x .before .before .before .before .before .before in
+    let s = y .before .before .before .before .before .before .before in
+    answers-accepted _ _ _ _ _ (lent s) (short y) (unrefused x) (no-cause a) (sized s) _ (e .step .ensures) _ _ (d .settle .ensures _ (prepared b)) (c .if4 .left)
 
 pub answer-spec : {M : Type 1} → statement M
 answer-spec =

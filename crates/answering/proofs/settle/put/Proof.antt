@@ -2,6 +2,7 @@ use mathlib.Core.Path.{_≡_}
 use Prim.Native.Nat.{_-_, _≤_}
 use lib.ListN.{length}
 use native.Mathlib.Omega.{arith}
+use Rattle.limits.specs.Limits.{mostFields}
 use borrow.Author.Needs.{needs}
 use Rattle.answering.specs.Settle.{Putting, putting-start, putting-next, putting-end}
 use Rattle.answering.proofs.settle.put.Statement.{statement}
@@ -43,7 +44,7 @@ same-length c = c .before .loop .inv .1 .sized
 returns : tie.Need-returns Inv-loop μ-loop
 returns c =
     let e : c .before .loop .f ≡ c .before .before .args .n = search needs in
-    let l : length (c .before .before .args .t2) ≡ 24 = search needs in
+    let l : length (c .before .before .args .t2) ≡ mostFields = search needs in
     rw e at (putting-end _ _ _ _ (let z = c .before .before .pre .0 in omega arith) (let z = c .before .before .pre .0 in let x = c .before .before .pre .1 in omega arith) (c .before .loop .inv .1))
 
 pub put-spec : {M : Type 1} → statement M
