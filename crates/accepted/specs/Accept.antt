@@ -13,7 +13,7 @@ use Rattle.grammar.specs.declared.grammar.Expected.{Expected}
 use Rattle.grammar.specs.declared.grammar.State.{State}
 use Rattle.grammar.specs.declared.grammar.State.the-variants.{Wants, Complete, OutOfRange, OutOfOrder}
 use Rattle.sheet.specs.Sources.{Item, num, cut, ill, meets, refusalFrom, refusal, numbers, ofNumbers, ofBytes, Accepted, AcceptedBytes}
-use Rattle.sheet.specs.Turns.{stays}
+use Rattle.sheet.specs.Progress.{stays}
 
 -- ---- a test on the way to acceptance
 

@@ -22,30 +22,19 @@ use Rattle.session.specs.declared.Session.{Session}
 use Rattle.session.proofs.Session as S
 use Rattle.session.proofs.Session.Laws as S′
 use Rattle.belaykeel.proofs.Frame.{value}
-use Rattle.belaykeel.proofs.Parameters.{Kind, number, shared, lent, lifetimes, rows, stored, sent, past, lends, operands}
+use Rattle.belaykeel.specs.Parameters.{Kind, number, shared, lent, AtEntry, AtExit}
+use Rattle.belaykeel.proofs.Parameters.{lifetimes, rows, stored, sent, past, lends, operands}
 use Rattle.belaykeel.proofs.Promise.{Ends, Promise}
 use Rattle.belaykeel.proofs.Outcome.{Returned, Answer, answer-type, answer-owned, type, owned}
 
 -- ---- what may be said: of the parameters at entry, and of the `&mut` slices at exit
-abbrev pub AtEntry : List Kind → Type 1 → Type 1
-AtEntry [] X = X
-AtEntry (number w ∷ ks) X = ℕ → AtEntry ks X
-AtEntry (shared w ∷ ks) X = List ℕ → AtEntry ks X
-AtEntry (lent w ∷ ks) X = List ℕ → AtEntry ks X
-
-abbrev pub AtExit : List Kind → Type 1
-AtExit [] = Type 0
-AtExit (number w ∷ ks) = AtExit ks
-AtExit (shared w ∷ ks) = AtExit ks
-AtExit (lent w ∷ ks) = List ℕ → AtExit ks
-
 abbrev at-entry : (ks : List Kind) {X : Type 1} (κs : Lfts (lifetimes ks)) → AtEntry ks X → Denots (rows ks κs) → X
 at-entry [] κs P a = P
 at-entry (number w ∷ ks) κs P a = at-entry ks κs (P (a .0)) (a .1)
 at-entry (shared w ∷ ks) κs P a = at-entry ks (κs .1) (P (now (a .0))) (a .1)
 at-entry (lent w ∷ ks) κs P a = at-entry ks (κs .1) (P (now (a .0))) (a .1)
 
-abbrev at-exit : (ks : List Kind) (κs : Lfts (lifetimes ks)) (a : Denots (rows ks κs)) → AtExit ks → Ends (rows ks κs) a → Type 0
+abbrev at-exit : (ks : List Kind) (κs : Lfts (lifetimes ks)) (a : Denots (rows ks κs)) → AtExit ks (Type 0) → Ends (rows ks κs) a → Type 0
 at-exit [] κs a P ws = P
 at-exit (number w ∷ ks) κs a P ws = at-exit ks κs (a .1) P (ws .1)
 at-exit (shared w ∷ ks) κs a P ws = at-exit ks (κs .1) (a .1) P (ws .1)
@@ -67,7 +56,7 @@ on ks = suc (copied ks)
 
 module _ (R : Returned) (ks : List Kind) where
   abbrev pub Says : Type 1
-  Says = Session → AtEntry ks (Answer R → Session → AtExit ks)
+  Says = Session → AtEntry ks (Answer R → Session → AtExit ks (Type 0))
 
   -- ---- the code
   abbrev pub function : Name → Fn

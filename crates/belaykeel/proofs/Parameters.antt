@@ -1,6 +1,5 @@
 -- The parameters of an outer function after the session, as a list of kinds, and what a walk needs of such a list. All of it computes where
 -- the list is written out.
---     Kind                     a number; a slice that is only read, `&[uN]`, which is passed on as it is; a `&mut [uN]`, which is lent on
 --     lifetimes, rows          the lifetimes, and the types
 --     spelling, spelled, tells, values, lent-values    the machine values
 --     stored, sent             the locals: one for each parameter, and two for each slice that is lent on, its pointer and itself
@@ -28,11 +27,9 @@ use denote.Laws.{Ises, Are, Spells, Tellss, valss}
 use denote.Plain.{UInt, uint-vals}
 use denote.Ref.{ptr-vals}
 use denote.Slice.{ShrSlice, MutSlice, sliceTy, slice-vals}
+use Rattle.belaykeel.specs.Parameters.{Kind, number, shared, lent}
 use Rattle.belaykeel.proofs.Frame.{value, Blocks, env, frame, Fit, Row, next, finds}
 use Rattle.belaykeel.proofs.Frame.{Holds, entry, first, second, behind, member, reads, held, part}
-
-pub data Kind : Type 0 where
-  number shared lent : Width → Kind
 
 -- ---- the types. The lifetimes are those of the references, in their order
 abbrev pub lifetimes : List Kind → ℕ

@@ -1,8 +1,6 @@
--- The signatures of the outer functions: what their callees return, their parameters after the session, and what they say.
+-- What the callees of the outer functions return, and what the outer functions say.
 use mathlib.Core.Path.{refl}
-use mathlib.Core.List.{List, [], _∷_}
 use Prim.Native.Nat.{ℕ}
-use mir.Syntax.{w8, w32}
 use denote.Struct.Field.{u32-field}
 use denote.Struct.Laws.{u32-laws, u32-plain}
 use Rattle.ledger.specs.declared.Call.{Call}
@@ -10,7 +8,7 @@ use Rattle.ledger.specs.Ledger.{decides}
 use Rattle.session.specs.declared.Outcome.{Outcome}
 use Rattle.session.proofs.Outcome as O
 use Rattle.answering.specs.Answer.{spaces, Answers}
-use Rattle.belaykeel.proofs.Parameters.{Kind, number, shared, lent}
+use Rattle.belaykeel.specs.Parameters.{plain, deciding}
 use Rattle.belaykeel.proofs.Outcome.{Returned}
 use Rattle.belaykeel.proofs.Outer.{Says}
 
@@ -26,14 +24,6 @@ numbered = record {
   answer = λ r. r .number;
   session = λ r. r .session;
 }
-
--- sheet, engine, order, offers, rows, memory
-abbrev pub plain : List Kind
-plain = shared w8 ∷ number w32 ∷ shared w8 ∷ lent w32 ∷ lent w32 ∷ lent w32 ∷ []
-
--- sheet, engine, order, field, position, offers, rows, memory
-abbrev pub deciding : List Kind
-deciding = shared w8 ∷ number w32 ∷ shared w8 ∷ number w32 ∷ number w32 ∷ lent w32 ∷ lent w32 ∷ lent w32 ∷ []
 
 -- a call with no field and no position
 abbrev pub answered : Call → Says numbered plain

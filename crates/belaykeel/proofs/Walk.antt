@@ -36,9 +36,10 @@ use denote.Triple.Table.{entered, cited}
 use Rattle.session.specs.declared.Session.{Session}
 use Rattle.session.proofs.Session as S
 use Rattle.session.proofs.Session.Laws as S′
+use Rattle.belaykeel.specs.Parameters.{Kind}
 use Rattle.belaykeel.proofs.Frame.{Blocks, env, frame, allocates, stores, frees-row, frees-one, Row, next, finds}
 use Rattle.belaykeel.proofs.Frame.{entry, held, part}
-use Rattle.belaykeel.proofs.Parameters.{Kind, lifetimes, rows, spelling, tells, spelled, values, lent-values, stored, sent}
+use Rattle.belaykeel.proofs.Parameters.{lifetimes, rows, spelling, tells, spelled, values, lent-values, stored, sent}
 use Rattle.belaykeel.proofs.Parameters.{after, fits, lending, sending}
 use Rattle.belaykeel.proofs.Promise.{Ends, ends, asks-no-more, begins, returned, answers}
 use Rattle.belaykeel.proofs.Outcome.{mach, code, session-typed, session-open, session-shut}

@@ -2,4 +2,4 @@
 pub mod Sources
 -- laws that the functions' proofs use
 pub mod Items
-pub mod Turns
+pub mod Progress

@@ -31,8 +31,9 @@ use Rattle.calls.proofs.back.Kinds as back-kinds
 use Rattle.calls.proofs.back.Reads as back-reads
 use Rattle.calls.proofs.coil_on.Kinds as coil-on-kinds
 use Rattle.calls.proofs.coil_on.Reads as coil-on-reads
-use Rattle.answering.specs.Answer.{spaces}
-use Rattle.theorem.specs.Turns.{Turn, Answered, Lists, Plain, Deciding, plain, deciding}
+use Rattle.belaykeel.specs.Parameters
+use Rattle.belaykeel.specs.Parameters.{Passed}
+use Rattle.theorem.specs.Turns.{Turn, Answered, turnOf, plain, deciding}
 
 -- κs are the lifetimes of the slices, a the arguments, r the outcome, and e the parameters at exit
 pub data Called : Turn → Type 0 where
@@ -101,18 +102,11 @@ Kinded Call.Back = Unit {0}
 Kinded Call.CoilOn = Unit {0}
 
 module _ (κs : Lfts 5) (s : Session) (sheet : List ℕ) (engine : ℕ) (order offers rows memory : List ℕ) (r : Outcome) (offers′ rows′ memory′ : List ℕ) where
-  abbrev turnOf : Call → Turn
-  turnOf c = record {
-    call = c;
-    session = s;
-    sheet = sheet;
-    engine = engine;
-    order = order;
-    lent = spaces offers rows memory;
-    number = r .number;
-    session′ = r .session;
-    left = spaces offers′ rows′ memory′;
-  }
+  abbrev turnBy : Call → Turn
+  turnBy c = turnOf c s sheet engine order offers rows memory (r .number) (r .session) offers′ rows′ memory′
+
+  abbrev Lists : Type 0
+  Lists = RefT (List ℕ) × (RefT (List ℕ) × (RefT (List ℕ) × Unit {0}))
 
   abbrev lists : Lists
   lists = (lends offers, (lends rows, (lends memory, tt)))
@@ -120,13 +114,13 @@ module _ (κs : Lfts 5) (s : Session) (sheet : List ℕ) (engine : ℕ) (order o
   abbrev lists′ : Lists
   lists′ = (lends offers′, (lends rows′, (lends memory′, tt)))
 
-  abbrev short : Lists → Session × Plain
+  abbrev short : Lists → Session × Passed Parameters.plain
   short x = (s, (lends sheet, (engine, (lends order, x))))
 
-  abbrev long : (f v : ℕ) → Lists → Session × Deciding
+  abbrev long : (f v : ℕ) → Lists → Session × Passed Parameters.deciding
   long f v x = (s, (lends sheet, (engine, (lends order, (f, (v, x))))))
 
-  every-kind : (k f v : ℕ) → CHOOSE ≤ k → k ≤ WITHDRAW-STRIKE → Answered (turnOf (decides k f v)) → Called (turnOf (decides k f v))
+  every-kind : (k f v : ℕ) → CHOOSE ≤ k → k ≤ WITHDRAW-STRIKE → Answered (turnBy (decides k f v)) → Called (turnBy (decides k f v))
   unfolding lends
   every-kind zero f v a b h = absurd (omega arith)
   every-kind (suc zero) f v a b h = by-choose κs (long f v lists) r (long f v lists′) h
@@ -135,7 +129,7 @@ module _ (κs : Lfts 5) (s : Session) (sheet : List ℕ) (engine : ℕ) (order o
   every-kind (suc (suc (suc (suc zero)))) f v a b h = by-withdraw-strike κs (long f v lists) r (long f v lists′) h
   every-kind (suc (suc (suc (suc (suc k))))) f v a b h = absurd (omega arith)
 
-  pub every-call : (c : Call) → Kinded c → Answered (turnOf c) → Called (turnOf c)
+  pub every-call : (c : Call) → Kinded c → Answered (turnBy c) → Called (turnBy c)
   unfolding lends
   every-call Call.Open k h = by-open κs (short lists) r (short lists′) h
   every-call Call.Show k h = by-show κs (short lists) r (short lists′) h

@@ -13,7 +13,7 @@ use Rattle.session.specs.declared.Session.{Session}
 use Rattle.session.specs.View.{view, Sized}
 use Rattle.theorem.specs.Turns.{Turn, Answered}
 use Rattle.theorem.specs.Follows.{givenTo, numbersOf, next, Agrees, Follows, ends, goes}
-use Rattle.theorem.specs.Going.{call-agrees}
+use Rattle.theorem.specs.CallAgrees.{call-agrees}
 use Rattle.theorem.proofs.Inner as inner
 use Rattle.theorem.proofs.Outer as outer
 

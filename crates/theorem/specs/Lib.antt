@@ -1,3 +1,3 @@
 pub mod Turns
 pub mod Follows
-pub mod Going
+pub mod CallAgrees

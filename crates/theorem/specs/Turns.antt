@@ -1,11 +1,12 @@
 -- One call: what it was given, and what it gave. `Answered` is what every call's contract is to say of it.
 use mathlib.Core.List.{List}
 use Prim.Native.Nat.{ℕ}
-use denote.Ref.{RefT, now}
 use Rattle.ledger.specs.declared.Call.{Call}
 use Rattle.ledger.specs.Ledger.{decides}
 use Rattle.session.specs.declared.Session.{Session}
 use Rattle.answering.specs.Answer.{Spaces, spaces, Answers}
+use Rattle.belaykeel.specs.Parameters
+use Rattle.belaykeel.specs.Parameters.{Kind, AtEntry, AtExit, Passed, entering, leaving}
 
 pub record Turn : Type 0 where
   pub call : Call
@@ -21,36 +22,27 @@ pub record Turn : Type 0 where
 abbrev pub Answered : Turn → Type 0
 Answered t = Answers (t .call) (t .session) (t .sheet) (t .engine) (t .order) (t .lent) (t .number) (t .session′) (t .left)
 
--- ---- the parameters after the session, as a function's contract has them at entry and at exit
-abbrev pub Lists : Type 0
-Lists = RefT (List ℕ) × (RefT (List ℕ) × (RefT (List ℕ) × Unit {0}))
+-- ---- a turn, of the parameters as a contract has them at entry and at exit
+abbrev turn : (ks : List Kind) → (Session → AtEntry ks (ℕ → Session → AtExit ks Turn)) → Session → Passed ks → ℕ → Session → Passed ks → Turn
+turn ks t s x n s′ y = leaving ks (entering ks (t s) x n s′) y
 
-abbrev pub Plain : Type 0
-Plain = RefT (List ℕ) × (ℕ × (RefT (List ℕ) × Lists))
-
-abbrev pub Deciding : Type 0
-Deciding = RefT (List ℕ) × (ℕ × (RefT (List ℕ) × (ℕ × (ℕ × Lists))))
-
-abbrev spacesOf : Lists → Spaces
-spacesOf x = spaces (now (x .0)) (now (x .1 .0)) (now (x .1 .1 .0))
-
--- the turn of a call that takes no field and no position, and of one that does
-abbrev turn : Call → (s s′ : Session) (sheet : RefT (List ℕ)) (engine : ℕ) (order : RefT (List ℕ)) → Lists → ℕ → Lists → Turn
-turn c s s′ sheet engine order x n y = record {
+abbrev pub turnOf : Call → Session → (sheet : List ℕ) (engine : ℕ) (order offers rows memory : List ℕ)
+    → ℕ → Session → (offers′ rows′ memory′ : List ℕ) → Turn
+turnOf c s sheet engine order offers rows memory n s′ offers′ rows′ memory′ = record {
   call = c;
   session = s;
-  sheet = now sheet;
+  sheet = sheet;
   engine = engine;
-  order = now order;
-  lent = spacesOf x;
+  order = order;
+  lent = spaces offers rows memory;
   number = n;
   session′ = s′;
-  left = spacesOf y;
+  left = spaces offers′ rows′ memory′;
 }
 
-abbrev pub plain : Call → Session → Plain → ℕ → Session → Plain → Turn
-plain c s x n s′ y = turn c s s′ (x .0) (x .1 .0) (x .1 .1 .0) (x .1 .1 .1) n (y .1 .1 .1)
+-- the turn of a call that takes no field and no position, and of one that does
+abbrev pub plain : Call → Session → Passed Parameters.plain → ℕ → Session → Passed Parameters.plain → Turn
+plain c = turn Parameters.plain (turnOf c)
 
-abbrev pub deciding : (kind : ℕ) → Session → Deciding → ℕ → Session → Deciding → Turn
-deciding kind s x n s′ y =
-    turn (decides kind (x .1 .1 .1 .0) (x .1 .1 .1 .1 .0)) s s′ (x .0) (x .1 .0) (x .1 .1 .0) (x .1 .1 .1 .1 .1) n (y .1 .1 .1 .1 .1)
+abbrev pub deciding : (kind : ℕ) → Session → Passed Parameters.deciding → ℕ → Session → Passed Parameters.deciding → Turn
+deciding kind = turn Parameters.deciding (λ s sheet engine order field position. turnOf (decides kind field position) s sheet engine order)

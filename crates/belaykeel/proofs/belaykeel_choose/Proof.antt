@@ -2,8 +2,9 @@
 use Rattle.ledger.specs.Ledger.{CHOOSE}
 use Rattle.calls.proofs.choose.Symbol as callee
 use Rattle.calls.proofs.choose.Met as kept
+use Rattle.belaykeel.specs.Parameters.{deciding}
 use Rattle.belaykeel.proofs.Walk.{meets}
-use Rattle.belaykeel.proofs.Signatures.{numbered, deciding, decided}
+use Rattle.belaykeel.proofs.Signatures.{numbered, decided}
 use Rattle.belaykeel.proofs.belaykeel_choose.Key as own
 use Rattle.belaykeel.proofs.belaykeel_choose.Statement as stated
 use Rattle.belaykeel.proofs.belaykeel_choose.Code as code

@@ -2,8 +2,9 @@
 use Rattle.ledger.specs.declared.Call.{Call}
 use Rattle.calls.proofs.show.Symbol as callee
 use Rattle.calls.proofs.show.Met as kept
+use Rattle.belaykeel.specs.Parameters.{plain}
 use Rattle.belaykeel.proofs.Walk.{meets}
-use Rattle.belaykeel.proofs.Signatures.{numbered, plain, answered}
+use Rattle.belaykeel.proofs.Signatures.{numbered, answered}
 use Rattle.belaykeel.proofs.belaykeel_show.Key as own
 use Rattle.belaykeel.proofs.belaykeel_show.Statement as stated
 use Rattle.belaykeel.proofs.belaykeel_show.Code as code

@@ -2,8 +2,9 @@
 use Rattle.ledger.specs.Ledger.{STRIKE}
 use Rattle.calls.proofs.strike.Symbol as callee
 use Rattle.calls.proofs.strike.Met as kept
+use Rattle.belaykeel.specs.Parameters.{deciding}
 use Rattle.belaykeel.proofs.Walk.{meets}
-use Rattle.belaykeel.proofs.Signatures.{numbered, deciding, decided}
+use Rattle.belaykeel.proofs.Signatures.{numbered, decided}
 use Rattle.belaykeel.proofs.belaykeel_strike.Key as own
 use Rattle.belaykeel.proofs.belaykeel_strike.Statement as stated
 use Rattle.belaykeel.proofs.belaykeel_strike.Code as code

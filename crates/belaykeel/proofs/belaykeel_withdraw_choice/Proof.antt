@@ -2,8 +2,9 @@
 use Rattle.ledger.specs.Ledger.{WITHDRAW-CHOICE}
 use Rattle.calls.proofs.withdraw_choice.Symbol as callee
 use Rattle.calls.proofs.withdraw_choice.Met as kept
+use Rattle.belaykeel.specs.Parameters.{deciding}
 use Rattle.belaykeel.proofs.Walk.{meets}
-use Rattle.belaykeel.proofs.Signatures.{numbered, deciding, decided}
+use Rattle.belaykeel.proofs.Signatures.{numbered, decided}
 use Rattle.belaykeel.proofs.belaykeel_withdraw_choice.Key as own
 use Rattle.belaykeel.proofs.belaykeel_withdraw_choice.Statement as stated
 use Rattle.belaykeel.proofs.belaykeel_withdraw_choice.Code as code

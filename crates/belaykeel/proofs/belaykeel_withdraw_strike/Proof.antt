@@ -2,8 +2,9 @@
 use Rattle.ledger.specs.Ledger.{WITHDRAW-STRIKE}
 use Rattle.calls.proofs.withdraw_strike.Symbol as callee
 use Rattle.calls.proofs.withdraw_strike.Met as kept
+use Rattle.belaykeel.specs.Parameters.{deciding}
 use Rattle.belaykeel.proofs.Walk.{meets}
-use Rattle.belaykeel.proofs.Signatures.{numbered, deciding, decided}
+use Rattle.belaykeel.proofs.Signatures.{numbered, decided}
 use Rattle.belaykeel.proofs.belaykeel_withdraw_strike.Key as own
 use Rattle.belaykeel.proofs.belaykeel_withdraw_strike.Statement as stated
 use Rattle.belaykeel.proofs.belaykeel_withdraw_strike.Code as code

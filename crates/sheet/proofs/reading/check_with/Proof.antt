@@ -11,7 +11,7 @@ use Rattle.grammar.specs.Grammar.{start}
 use Rattle.grammar.specs.declared.grammar.State.{State}
 use Rattle.sheet.specs.Sources.{Item, meets, refusalFrom, numbers, itemsFrom, ofBytes, answered}
 use Rattle.sheet.specs.Items.{from-end, from-num, from-cut, from-ill, from-some}
-use Rattle.sheet.specs.Turns.{Going, going-on, going-end, going-refused, going-stays, refusalFrom-cut, refusalFrom-ill, numbers-num, numbers-none, advance-length}
+use Rattle.sheet.specs.Progress.{Going, going-on, going-end, going-refused, going-stays, refusalFrom-cut, refusalFrom-ill, numbers-num, numbers-none, advance-length}
 use Rattle.sheet.proofs.reading.check_with.Statement.{statement}
 use Rattle.sheet.proofs.reading.check_with.Tie as tie
 

@@ -9,7 +9,7 @@ use Rattle.groups.specs.Storing.{Storing, storing-none, storing-one, storing-do
 use Rattle.groups.specs.declared.groups.Number.the-variants.{Value}
 use Rattle.sheet.specs.Sources.{numbers, itemsFrom, ofBytes}
 use Rattle.sheet.specs.Items.{from-end, from-num, from-cut, from-ill}
-use Rattle.sheet.specs.Turns.{numbers-num, numbers-none}
+use Rattle.sheet.specs.Progress.{numbers-num, numbers-none}
 use Rattle.sheet.proofs.reading.put_numbers.Statement.{statement}
 use Rattle.sheet.proofs.reading.put_numbers.Tie as tie
 

@@ -9,7 +9,7 @@ use Rattle.groups.specs.Groups.{encode}
 use Rattle.grammar.specs.Grammar.{start}
 use Rattle.grammar.specs.declared.grammar.State.{State}
 use Rattle.sheet.specs.Sources.{meets, refusalFrom, ofNumbers, bytesOf, answered}
-use Rattle.sheet.specs.Turns.{Going, going-on, going-end, going-stays, items-next, bytes-next, bytes-end, advance-length}
+use Rattle.sheet.specs.Progress.{Going, going-on, going-end, going-stays, items-next, bytes-next, bytes-end, advance-length}
 use Rattle.sheet.proofs.writing.check_with.Statement.{statement}
 use Rattle.sheet.proofs.writing.check_with.Tie as tie
 

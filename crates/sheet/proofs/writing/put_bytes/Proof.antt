@@ -6,7 +6,7 @@ use denote.Ref.{now}
 use Rattle.groups.specs.Groups.{encode}
 use Rattle.groups.specs.Storing.{Storing, storing-none, storing-part, storing-done}
 use Rattle.sheet.specs.Sources.{bytesOf}
-use Rattle.sheet.specs.Turns.{bytes-next, bytes-end}
+use Rattle.sheet.specs.Progress.{bytes-next, bytes-end}
 use Rattle.sheet.proofs.writing.put_bytes.Statement.{statement}
 use Rattle.sheet.proofs.writing.put_bytes.Tie as tie
 

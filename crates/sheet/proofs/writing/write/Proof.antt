@@ -2,7 +2,7 @@ use native.Mathlib.Omega.{arith}
 use borrow.Author.Needs.{needs}
 use denote.Ref.{now}
 use Rattle.sheet.specs.Sources.{ofNumbers, bytesOf}
-use Rattle.sheet.specs.Turns.{gives-refused, gives-short, gives-room, gives-values}
+use Rattle.sheet.specs.Progress.{gives-refused, gives-short, gives-room, gives-values}
 use Rattle.sheet.proofs.writing.write.Statement.{statement}
 use Rattle.sheet.proofs.writing.write.Tie as tie
 
