@@ -79,17 +79,17 @@ pub record Returned : Type 2 where
   pub session : Outcome → Session
 
 module _ (R : Returned) where
-  abbrev pub Answer : Type 0
-  Answer = R .answers .Value
+  abbrev pub AnswerValue : Type 0
+  AnswerValue = R .answers .Value
 
   -- an answer: what it owns, its machine type and its machine value
-  abbrev pub answer-owned : Answer → List Val → Fml
+  abbrev pub answer-owned : AnswerValue → List Val → Fml
   answer-owned x vs = R .answers .row .own (R .answers .into x) vs
 
   abbrev pub answer-type : Ty
   answer-type = lone (R .answers .row .mir)
 
-  abbrev pub answer-val : Answer → Val
+  abbrev pub answer-val : AnswerValue → Val
   answer-val x = R .laws .val (R .answers .into x)
 
   -- the struct: what it owns, its machine type and its machine value

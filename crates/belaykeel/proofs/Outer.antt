@@ -25,7 +25,7 @@ use Rattle.belaykeel.proofs.Frame.{value}
 use Rattle.belaykeel.specs.Parameters.{Kind, number, shared, lent, AtEntry, AtExit}
 use Rattle.belaykeel.proofs.Parameters.{lifetimes, rows, stored, sent, past, lends, operands}
 use Rattle.belaykeel.proofs.Promise.{Ends, Promise}
-use Rattle.belaykeel.proofs.Outcome.{Returned, Answer, answer-type, answer-owned, type, owned}
+use Rattle.belaykeel.proofs.Outcome.{Returned, AnswerValue, answer-type, answer-owned, type, owned}
 
 -- ---- what may be said: of the parameters at entry, and of the `&mut` slices at exit
 abbrev at-entry : (ks : List Kind) {X : Type 1} (κs : Lfts (lifetimes ks)) → AtEntry ks X → Denots (rows ks κs) → X
@@ -56,7 +56,7 @@ on ks = suc (copied ks)
 
 module _ (R : Returned) (ks : List Kind) where
   abbrev pub Says : Type 1
-  Says = Session → AtEntry ks (Answer R → Session → AtExit ks (Type 0))
+  Says = Session → AtEntry ks (AnswerValue R → Session → AtExit ks (Type 0))
 
   -- ---- the code
   abbrev pub function : Name → Fn
@@ -81,13 +81,13 @@ module _ (R : Returned) (ks : List Kind) where
   outer-rows κs = MutRef erased (κs .0) S.the-row ∷ rows ks (κs .1)
 
   module _ (P : Says) where
-    abbrev said : Session → (κs : Lfts (lifetimes ks)) (a : Denots (rows ks κs)) → Answer R → Session → Ends (rows ks κs) a → Type 0
+    abbrev said : Session → (κs : Lfts (lifetimes ks)) (a : Denots (rows ks κs)) → AnswerValue R → Session → Ends (rows ks κs) a → Type 0
     said d κs a x d′ ws = at-exit ks κs a (at-entry ks κs (P d) a x d′) ws
 
     abbrev pub Inside : (κs : Lfts (lifetimes ks)) (a : Denots (inner-rows κs)) → R .Outcome → Ends (inner-rows κs) a → Type 0
     Inside κs a r ws = said (a .0) κs (a .1) (R .answer r) (R .session r) (ws .1)
 
-    abbrev pub Outside : (κs : Lfts (suc (lifetimes ks))) (a : Denots (outer-rows κs)) → Answer R → Ends (outer-rows κs) a → Type 0
+    abbrev pub Outside : (κs : Lfts (suc (lifetimes ks))) (a : Denots (outer-rows κs)) → AnswerValue R → Ends (outer-rows κs) a → Type 0
     Outside κs a x ws = said (now (a .0)) (κs .1) (a .1) x (ws .0) (ws .1)
 
     module _ {M : Type 1} (𝓤 : URA M) (H : Heap 𝓤) (A : Atoms 𝓤) where
@@ -95,4 +95,4 @@ module _ (R : Returned) (ks : List Kind) where
       Inner = Promise 𝓤 H A (lifetimes ks) inner-rows (R .Outcome) (owned R) Inside
 
       abbrev pub Outer : Contract 𝓤
-      Outer = Promise 𝓤 H A (suc (lifetimes ks)) outer-rows (Answer R) (answer-owned R) Outside
+      Outer = Promise 𝓤 H A (suc (lifetimes ks)) outer-rows (AnswerValue R) (answer-owned R) Outside

@@ -43,7 +43,7 @@ use Rattle.belaykeel.proofs.Parameters.{lifetimes, rows, spelling, tell
 use Rattle.belaykeel.proofs.Parameters.{after, fits, lending, sending}
 use Rattle.belaykeel.proofs.Promise.{Ends, ends, asks-no-more, begins, returned, answers}
 use Rattle.belaykeel.proofs.Outcome.{mach, code, session-typed, session-open, session-shut}
-use Rattle.belaykeel.proofs.Outcome.{Returned, Answer, answer-type, answer-owned, answer-val, row, fields, owned, type, Known, knows}
+use Rattle.belaykeel.proofs.Outcome.{Returned, AnswerValue, answer-type, answer-owned, answer-val, row, fields, owned, type, Known, knows}
 use Rattle.belaykeel.proofs.Outer.{Says, reference, out, copied, on, function, inner-rows, outer-rows, Inside, Outside, Inner, Outer}
 
 -- ---- positions in a context. The locals stand behind k other entries: the rows of the parameters and of the slices that are lent on, and
@@ -177,7 +177,7 @@ module _ (R : Returned) (ks : List Kind) where
         move ! (3 ∷ []) $ fsplit ! $ drop ! $ move ! (1 ∷ 0 ∷ []) $ fjoin ! $ move ! (1 ∷ 2 ∷ []) $ join ! $
         use0 W (raw (fact 𝓤 (Said r zs))) (factI 𝓤 (Said r zs) (emp 𝓤) e) $
         use0 W (‵ (answer-owned R (R .answer r) (answer-val R (R .answer r) ∷ []))) (k .answer-made) $ move ! (2 ∷ 0 ∷ 3 ∷ 1 ∷ []) $
-        by ! (answers 𝓤 H A (suc (lifetimes ks)) (outer-rows R ks) (Answer R) (answer-owned R) (Outside R ks P) begun
+        by ! (answers 𝓤 H A (suc (lifetimes ks)) (outer-rows R ks) (AnswerValue R) (answer-owned R) (Outside R ks P) begun
         (answer-val R (R .answer r)) W (R .answer r) (R .session r, zs .1))
 
     module _ (are : Are (rows ks (κs .1)) (Ises (rows ks (κs .1))) (a .1) (spelled ks (κs .1) (a .1)))
