@@ -1,8 +1,9 @@
 /* Belaykeel: the offers of a set-up page, kept under choices and strikes that are withdrawn in any order.
  *
  * Every call returns 0, or the number of the first cause of its refusal (the table below); a refused call leaves session, offers list and
- * output as they were. No call allocates, and none asks anything of its arguments but what C asks: each pointer is valid for its length (and not
- * NULL, even where the length is 0), and what a call writes (session, offers, rows, memory, output) overlaps nothing else that it is given.
+ * output as they were, and one refused by 6 the work spaces too. No call allocates, and none asks anything of its arguments but what C
+ * asks: each pointer is valid for its length (and not NULL, even where the length is 0), and what a call writes (session, offers, rows,
+ * memory, output) overlaps nothing else that it is given.
  */
 #ifndef BELAYKEEL_H
 #define BELAYKEEL_H
@@ -78,41 +79,44 @@ typedef struct {
  *   order              the field positions in the order in which the engine visits them, each just one time
  *   field, position    the decision, counted from 0
  *   offers             an accepted call writes a mask for each field of the sheet: bit v means that position v is offered; later words stay
- *   rows, memory       work spaces; what they hold before does not matter, and they hold anything afterwards
+ *   rows, memory       work spaces; what they hold before does not matter, and they may hold anything afterwards, except where 6 refuses:
+ *                      then they too are as they were
  */
 
 /* Starts: no decisions, no events. */
-uint32_t belaykeel_open(belaykeel_session *session, const uint8_t *sheet, size_t sheet_len, uint32_t engine, const uint8_t *order, size_t order_len,
-    uint32_t *offers, size_t offers_len, uint32_t *rows, size_t rows_len, uint32_t *memory, size_t memory_len);
+uint32_t belaykeel_open(belaykeel_session *session, const uint8_t *sheet, size_t sheet_len, uint32_t engine, const uint8_t *order,
+    size_t order_len, uint32_t *offers, size_t offers_len, uint32_t *rows, size_t rows_len, uint32_t *memory, size_t memory_len);
 
 /* Changes nothing and gives the offers. */
-uint32_t belaykeel_show(belaykeel_session *session, const uint8_t *sheet, size_t sheet_len, uint32_t engine, const uint8_t *order, size_t order_len,
-    uint32_t *offers, size_t offers_len, uint32_t *rows, size_t rows_len, uint32_t *memory, size_t memory_len);
+uint32_t belaykeel_show(belaykeel_session *session, const uint8_t *sheet, size_t sheet_len, uint32_t engine, const uint8_t *order,
+    size_t order_len, uint32_t *offers, size_t offers_len, uint32_t *rows, size_t rows_len, uint32_t *memory, size_t memory_len);
 
 /* Adds a choice, or a strike. */
-uint32_t belaykeel_choose(belaykeel_session *session, const uint8_t *sheet, size_t sheet_len, uint32_t engine, const uint8_t *order, size_t order_len,
-    uint32_t field, uint32_t position, uint32_t *offers, size_t offers_len, uint32_t *rows, size_t rows_len, uint32_t *memory, size_t memory_len);
-uint32_t belaykeel_strike(belaykeel_session *session, const uint8_t *sheet, size_t sheet_len, uint32_t engine, const uint8_t *order, size_t order_len,
-    uint32_t field, uint32_t position, uint32_t *offers, size_t offers_len, uint32_t *rows, size_t rows_len, uint32_t *memory, size_t memory_len);
+uint32_t belaykeel_choose(belaykeel_session *session, const uint8_t *sheet, size_t sheet_len, uint32_t engine, const uint8_t *order,
+    size_t order_len, uint32_t field, uint32_t position, uint32_t *offers, size_t offers_len, uint32_t *rows, size_t rows_len,
+    uint32_t *memory, size_t memory_len);
+uint32_t belaykeel_strike(belaykeel_session *session, const uint8_t *sheet, size_t sheet_len, uint32_t engine, const uint8_t *order,
+    size_t order_len, uint32_t field, uint32_t position, uint32_t *offers, size_t offers_len, uint32_t *rows, size_t rows_len,
+    uint32_t *memory, size_t memory_len);
 
 /* Withdraws a choice, or a strike, whenever it was made. */
-uint32_t belaykeel_withdraw_choice(belaykeel_session *session, const uint8_t *sheet, size_t sheet_len, uint32_t engine, const uint8_t *order,
-    size_t order_len, uint32_t field, uint32_t position, uint32_t *offers, size_t offers_len, uint32_t *rows, size_t rows_len, uint32_t *memory,
-    size_t memory_len);
-uint32_t belaykeel_withdraw_strike(belaykeel_session *session, const uint8_t *sheet, size_t sheet_len, uint32_t engine, const uint8_t *order,
-    size_t order_len, uint32_t field, uint32_t position, uint32_t *offers, size_t offers_len, uint32_t *rows, size_t rows_len, uint32_t *memory,
-    size_t memory_len);
+uint32_t belaykeel_withdraw_choice(belaykeel_session *session, const uint8_t *sheet, size_t sheet_len, uint32_t engine,
+    const uint8_t *order, size_t order_len, uint32_t field, uint32_t position, uint32_t *offers, size_t offers_len, uint32_t *rows,
+    size_t rows_len, uint32_t *memory, size_t memory_len);
+uint32_t belaykeel_withdraw_strike(belaykeel_session *session, const uint8_t *sheet, size_t sheet_len, uint32_t engine,
+    const uint8_t *order, size_t order_len, uint32_t field, uint32_t position, uint32_t *offers, size_t offers_len, uint32_t *rows,
+    size_t rows_len, uint32_t *memory, size_t memory_len);
 
 /* Drops the latest event and reverses it: an added decision goes, a withdrawn one returns. */
-uint32_t belaykeel_back(belaykeel_session *session, const uint8_t *sheet, size_t sheet_len, uint32_t engine, const uint8_t *order, size_t order_len,
-    uint32_t *offers, size_t offers_len, uint32_t *rows, size_t rows_len, uint32_t *memory, size_t memory_len);
+uint32_t belaykeel_back(belaykeel_session *session, const uint8_t *sheet, size_t sheet_len, uint32_t engine, const uint8_t *order,
+    size_t order_len, uint32_t *offers, size_t offers_len, uint32_t *rows, size_t rows_len, uint32_t *memory, size_t memory_len);
 
 /* Drops all events; the decisions remain. */
-uint32_t belaykeel_coil_on(belaykeel_session *session, const uint8_t *sheet, size_t sheet_len, uint32_t engine, const uint8_t *order, size_t order_len,
-    uint32_t *offers, size_t offers_len, uint32_t *rows, size_t rows_len, uint32_t *memory, size_t memory_len);
+uint32_t belaykeel_coil_on(belaykeel_session *session, const uint8_t *sheet, size_t sheet_len, uint32_t engine, const uint8_t *order,
+    size_t order_len, uint32_t *offers, size_t offers_len, uint32_t *rows, size_t rows_len, uint32_t *memory, size_t memory_len);
 
-/* Reads a sheet's bytes to its list of numbers, and writes such a list as bytes. Refused by 1 to 5 first and by 6 last; places past the output
- * stay as they were. */
+/* Reads a sheet's bytes to its list of numbers, and writes such a list as bytes. Refused by 1 to 5 first and by 6 last; places past the
+ * output stay as they were. */
 belaykeel_answer belaykeel_read(const uint8_t *sheet, size_t sheet_len, uint32_t *output, size_t output_len);
 belaykeel_answer belaykeel_write(const uint32_t *numbers, size_t numbers_len, uint8_t *output, size_t output_len);
 

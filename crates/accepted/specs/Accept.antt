@@ -17,12 +17,14 @@ use Rattle.sheet.specs.Progress.{stays}
 
 -- ---- a test on the way to acceptance
 
-pub ranged-in : (t : Bool) (next : State) (ds : List ℕ) (is : List Item) → refusalFrom (ranged t next) ds is ≡ 0 → (t ≡ true) × (refusalFrom next ds is ≡ 0)
+pub ranged-in : (t : Bool) (next : State) (ds : List ℕ) (is : List Item) → refusalFrom (ranged t next) ds is ≡ 0
+    → (t ≡ true) × (refusalFrom next ds is ≡ 0)
 unfolding pick
 ranged-in true next ds is e = (refl, e)
 ranged-in false next ds is e = absurd (omega (arith, e, stays OutOfRange ds 3 is (λ f. refl) (λ z. refl)))
 
-pub ordered-in : (t : Bool) (next : State) (ds : List ℕ) (is : List Item) → refusalFrom (ordered t next) ds is ≡ 0 → (t ≡ true) × (refusalFrom next ds is ≡ 0)
+pub ordered-in : (t : Bool) (next : State) (ds : List ℕ) (is : List Item) → refusalFrom (ordered t next) ds is ≡ 0
+    → (t ≡ true) × (refusalFrom next ds is ≡ 0)
 unfolding pick
 ordered-in true next ds is e = (refl, e)
 ordered-in false next ds is e = absurd (omega (arith, e, stays OutOfOrder ds 4 is (λ f. refl) (λ z. refl)))

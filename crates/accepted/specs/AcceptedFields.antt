@@ -49,13 +49,15 @@ settings-one f left floor n x ds ys h k ih e =
     })
     (pick-in (eqb left 0) (afterField n f) (Wants n (Setting f (left - 1) (x + 1))) ds (ofNumbers ys) e)
 
-settings-in : (ys : List ℕ) (f left floor n : ℕ) (ds : List ℕ) → refusalFrom (Wants n (Setting f left floor)) ds (ofNumbers ys) ≡ 0 → SettingsIn f left floor n ds ys
+settings-in : (ys : List ℕ) (f left floor n : ℕ) (ds : List ℕ) → refusalFrom (Wants n (Setting f left floor)) ds (ofNumbers ys) ≡ 0
+    → SettingsIn f left floor n ds ys
 unfolding refusalFrom advance
 settings-in [] f left floor n ds e = absurd (omega arith)
 settings-in (x ∷ ys) f left floor n ds e =
     let r = ranged-in (leb x largestSetting) _ ds (ofNumbers ys) e in
     let o = ordered-in (leb floor x) _ ds (ofNumbers ys) (r .1) in
-    settings-one f left floor n x ds ys (leb-true floor x (o .0)) (leb-true x largestSetting (r .0)) (λ l. settings-in ys f l (x + 1) n ds) (o .1)
+    settings-one f left floor n x ds ys (leb-true floor x (o .0)) (leb-true x largestSetting (r .0))
+    (λ l. settings-in ys f l (x + 1) n ds) (o .1)
 
 pub record FieldsIn (f m n : ℕ) (ds ys : List ℕ) : Type 0 where
   pub fields : List (List ℕ)
@@ -93,7 +95,9 @@ fields-one f m n d ds ys h p q t u =
       fields = z ∷ u .fields;
       rest = u .rest;
       counts = u .counts;
-      split = ap₂ _∷_ (sym size) (t .split ∙ ap (λ (l : List ℕ). z ++ l) (u .split) ∙ sym (append-assoc z (fieldsNumbers (u .fields)) (u .rest)));
+      split =
+          ap₂ _∷_ (sym size)
+          (t .split ∙ ap (λ (l : List ℕ). z ++ l) (u .split) ∙ sym (append-assoc z (fieldsNumbers (u .fields)) (u .rest)));
       size = ap suc (u .size);
       right = right;
       before = λ k l. u .before k (omega arith) ∙ getD-set-other ds f k d 0 (λ r. absurd (omega (arith, r)));
@@ -105,21 +109,25 @@ fields-one f m n d ds ys h p q t u =
     right zero l = let e = t .size in record { some = omega arith; few = omega arith; rise = t .rise }
     right (suc k) l = u .right k (omega arith)
 
-    after : (z : List ℕ) → length z ≡ d → (k : ℕ) → k < length (z ∷ u .fields) → getD (u .counts) (f + k) 0 ≡ length (getD (z ∷ u .fields) k [])
+    after : (z : List ℕ) → length z ≡ d → (k : ℕ) → k < length (z ∷ u .fields)
+        → getD (u .counts) (f + k) 0 ≡ length (getD (z ∷ u .fields) k [])
     after z e zero l = ap (λ (i : ℕ). getD (u .counts) i 0) (add-zero f) ∙ u .before f (omega arith) ∙ getD-set-same ds f d 0 h ∙ sym e
     after z e (suc k) l = ap (λ (i : ℕ). getD (u .counts) i 0) (let i : f + suc k ≡ f + 1 + k = omega arith in i) ∙ u .after k (omega arith)
 
-pub fields-in : (m f n : ℕ) (ds ys : List ℕ) → f + m ≡ n → n ≤ length ds → refusalFrom (pick (ltb f n) (Wants n (Count f)) (Wants n Reach)) ds (ofNumbers ys) ≡ 0 → FieldsIn f m n ds ys
+pub fields-in : (m f n : ℕ) (ds ys : List ℕ) → f + m ≡ n → n ≤ length ds
+    → refusalFrom (pick (ltb f n) (Wants n (Count f)) (Wants n Reach)) ds (ofNumbers ys) ≡ 0 → FieldsIn f m n ds ys
 unfolding refusalFrom advance
 fields-in zero f n ds ys h k e =
-    ⊎-elim (λ r. absurd (omega (arith, ltb-true f n (r .0), h))) (λ r. fields-none f n ds ys (r .1)) (pick-in (ltb f n) (Wants n (Count f)) (Wants n Reach) ds (ofNumbers ys) e)
+    ⊎-elim (λ r. absurd (omega (arith, ltb-true f n (r .0), h))) (λ r. fields-none f n ds ys (r .1))
+    (pick-in (ltb f n) (Wants n (Count f)) (Wants n Reach) ds (ofNumbers ys) e)
 fields-in (suc m) f n ds ys h k e =
     ⊎-elim (λ r. go ys (r .1) (λ d rest. fields-in m (f + 1) n (set ds f d) rest (omega arith) (rw (length-set ds f d) k)))
     (λ r. absurd (omega (arith, ltb-false f n (r .0), h)))
     (pick-in (ltb f n) (Wants n (Count f)) (Wants n Reach) ds (ofNumbers ys) e)
   where
     go : (ys : List ℕ) → refusalFrom (Wants n (Count f)) ds (ofNumbers ys) ≡ 0
-        → ((d : ℕ) (rest : List ℕ) → refusalFrom (afterField n f) (set ds f d) (ofNumbers rest) ≡ 0 → FieldsIn (f + 1) m n (set ds f d) rest)
+        → ((d : ℕ) (rest : List ℕ) → refusalFrom (afterField n f) (set ds f d) (ofNumbers rest) ≡ 0
+        → FieldsIn (f + 1) m n (set ds f d) rest)
         → FieldsIn f (suc m) n ds ys
     go [] e ih = absurd (omega arith)
     go (d ∷ ys) e ih =

@@ -30,8 +30,10 @@ abbrev Masks : ℕ → ℕ → List ℕ → Type 0
 Masks size b values = (length values ≡ size) × Below b values
 
 masks-one : (left floor j more n x : ℕ) (ds ys : List ℕ) → x < 2 ^ getD ds j 0
-    → ((l : ℕ) → refusalFrom (Wants n (Mask left floor j l)) ds (ofNumbers ys) ≡ 0 → ValuesIn left floor n ds ys (Masks (suc l) (2 ^ getD ds j 0)))
-    → refusalFrom (afterMask n left floor j more) ds (ofNumbers ys) ≡ 0 → ValuesIn left floor n ds (x ∷ ys) (Masks (suc more) (2 ^ getD ds j 0))
+    → ((l : ℕ) → refusalFrom (Wants n (Mask left floor j l)) ds (ofNumbers ys) ≡ 0
+    → ValuesIn left floor n ds ys (Masks (suc l) (2 ^ getD ds j 0)))
+    → refusalFrom (afterMask n left floor j more) ds (ofNumbers ys) ≡ 0
+    → ValuesIn left floor n ds (x ∷ ys) (Masks (suc more) (2 ^ getD ds j 0))
 masks-one left floor j more n x ds ys h ih e =
     ⊎-elim
     (λ r. record {
@@ -58,7 +60,8 @@ masks-in (x ∷ ys) left floor j more n ds e =
     let r = ranged-in (ltb x (2 ^ getD ds j 0)) _ ds (ofNumbers ys) e in
     masks-one left floor j more n x ds ys (ltb-true x _ (r .0)) (λ l. masks-in ys left floor j l n ds) (r .1)
 
-amount-in : (ys : List ℕ) (left floor n : ℕ) (ds : List ℕ) → refusalFrom (Wants n (Amount left floor)) ds (ofNumbers ys) ≡ 0 → ValuesIn left floor n ds ys (Masks 1 (largestSetting + 1))
+amount-in : (ys : List ℕ) (left floor n : ℕ) (ds : List ℕ) → refusalFrom (Wants n (Amount left floor)) ds (ofNumbers ys) ≡ 0
+    → ValuesIn left floor n ds ys (Masks 1 (largestSetting + 1))
 unfolding refusalFrom advance
 amount-in [] left floor n ds e = absurd (omega arith)
 amount-in (x ∷ ys) left floor n ds e =
@@ -83,7 +86,8 @@ rule-of left floor n i j kind ds ys a b c d s e =
       rest = t .rest;
       split = ap (λ (l : List ℕ). i ∷ j ∷ kind ∷ l) (t .split);
       rise = c;
-      right = record { apart = a; within = b; kind-le = d; numbers = inl (eqb-true kind 0 (r .0), omega (arith, t .right .0), t .right .1) };
+      right =
+          record { apart = a; within = b; kind-le = d; numbers = inl (eqb-true kind 0 (r .0), omega (arith, t .right .0), t .right .1) };
       on = t .on;
     })
     (λ r. let t = amount-in ys left (key i j + 1) n ds (r .1) in record {
@@ -99,7 +103,8 @@ rule-of left floor n i j kind ds ys a b c d s e =
 rising-le : (i j floor : ℕ) → rising i j floor ≡ true → (i < j) × (floor ≤ key i j)
 rising-le i j floor e = let b = both (ltb i j) (leb floor (key i j)) e in (ltb-true i j (b .0), leb-true floor (key i j) (b .1))
 
-rule-in : (ys : List ℕ) (left floor n : ℕ) (ds : List ℕ) → ((k : ℕ) → k < n → 1 ≤ getD ds k 0) → refusalFrom (Wants n (First left floor)) ds (ofNumbers ys) ≡ 0 → RuleIn left floor n ds ys
+rule-in : (ys : List ℕ) (left floor n : ℕ) (ds : List ℕ) → ((k : ℕ) → k < n → 1 ≤ getD ds k 0)
+    → refusalFrom (Wants n (First left floor)) ds (ofNumbers ys) ≡ 0 → RuleIn left floor n ds ys
 unfolding refusalFrom advance
 rule-in [] left floor n ds h e = absurd (omega arith)
 rule-in (i ∷ []) left floor n ds h e = let r = ranged-in (ltb i n) _ ds [] e .1 in absurd (omega arith)
@@ -127,7 +132,8 @@ unfolding refusalFrom advance
 end-in [] n ds e = refl
 end-in (x ∷ ys) n ds e = absurd (omega arith)
 
-pub rules-in : (left floor n : ℕ) (ds ys : List ℕ) → ((k : ℕ) → k < n → 1 ≤ getD ds k 0) → refusalFrom (afterRule n left floor) ds (ofNumbers ys) ≡ 0 → RulesIn left floor n ds ys
+pub rules-in : (left floor n : ℕ) (ds ys : List ℕ) → ((k : ℕ) → k < n → 1 ≤ getD ds k 0)
+    → refusalFrom (afterRule n left floor) ds (ofNumbers ys) ≡ 0 → RulesIn left floor n ds ys
 unfolding rulesNumbers
 rules-in zero floor n ds ys h e =
     ⊎-elim (λ r. record { rules = []; split = end-in ys n ds (r .1); size = refl; ruled = ruled-none })

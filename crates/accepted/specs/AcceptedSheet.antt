@@ -29,7 +29,12 @@ ruled-same n floor d d′ rs h (ruled-one {r = r} {rs = ts} l g t) =
     let a = g .apart in
     let b = g .within in
     ruled-one l
-    (record { apart = a; within = b; kind-le = g .kind-le; numbers = values-same d d′ r (h (r .i) (omega arith)) (h (r .j) b) (g .numbers) })
+    (record {
+      apart = a;
+      within = b;
+      kind-le = g .kind-le;
+      numbers = values-same d d′ r (h (r .i) (omega arith)) (h (r .j) b) (g .numbers);
+    })
     (ruled-same n _ d d′ ts h t)
 
 sheet-of : (n reach e : ℕ) (ys zs : List ℕ) → 1 ≤ n → n ≤ mostFields → (t : FieldsIn 0 n n noCounts ys) → t .rest ≡ reach ∷ e ∷ zs
@@ -61,10 +66,13 @@ sheet-in [] e = absurd (omega arith)
 sheet-in (n ∷ ys) e =
     let r = ranged-in _ (Wants n (Count 0)) noCounts (ofNumbers ys) e in
     let b = upTo-le mostFields n (r .0) in
-    let t = fields-in n 0 n noCounts ys (zero-add n) (b .1) (rw (pick-true (ltb 0 n) (Wants n (Count 0)) (Wants n Reach) (lt-ltb 0 n (b .0))) (r .1)) in
+    let t =
+    fields-in n 0 n noCounts ys (zero-add n) (b .1)
+    (rw (pick-true (ltb 0 n) (Wants n (Count 0)) (Wants n Reach) (lt-ltb 0 n (b .0))) (r .1)) in
     go (b .0) (b .1) t (t .rest) refl (t .on)
   where
-    go : 1 ≤ n → n ≤ mostFields → (t : FieldsIn 0 n n noCounts ys) → (zs : List ℕ) → t .rest ≡ zs → refusalFrom (Wants n Reach) (t .counts) (ofNumbers zs) ≡ 0 → IsSheet (n ∷ ys)
+    go : 1 ≤ n → n ≤ mostFields → (t : FieldsIn 0 n n noCounts ys) → (zs : List ℕ) → t .rest ≡ zs
+        → refusalFrom (Wants n Reach) (t .counts) (ofNumbers zs) ≡ 0 → IsSheet (n ∷ ys)
     go p q t [] z on = absurd (omega arith)
     go p q t (reach ∷ []) z on = let r = ranged-in _ _ (t .counts) [] on .1 in absurd (omega arith)
     go p q t (reach ∷ k ∷ zs) z on =

@@ -8,10 +8,13 @@ use lib.ListN.{length, getD}
 use Rattle.limits.specs.Limits.{mostFields, mostSettings, largestSetting, wholeReach, mostRules, lastKind}
 use Rattle.grammar.specs.Grammar.{key}
 use Rattle.sheet.specs.Sources.{Accepted}
-use Rattle.accepted.specs.Sheets.{Rule, Sheet, Rises, rises-none, rises-one, Below, below-none, below-one, RuleRight, Ruled, ruled-none, ruled-one, counted, IsSheet}
+use Rattle.accepted.specs.Sheets.{Rule, Sheet, Rises, rises-none, rises-one, Below, below-none, below-one, RuleRight, Ruled}
+use Rattle.accepted.specs.Sheets.{ruled-none, ruled-one, counted, IsSheet}
 use Rattle.accepted.specs.AcceptedSheet.{sheet-in}
-use Rattle.accepted.specs.Parts.{RuleAt, rule-next, fieldStart, fieldsOf, countOf, settingOf, reachOf, rulesOf, ruleStart, firstOf, secondOf, kindOf, valueOf, valuesAt}
-use Rattle.accepted.specs.Places.{noRule, ruleOf, fields-count, count-is, setting-is, field-ends, reach-is, rules-is, rule-right, first-is, second-is, kind-is, value-is, tail-ends, rule-ends, rule-values}
+use Rattle.accepted.specs.Parts.{RuleAt, rule-next, fieldStart, fieldsOf, countOf, settingOf, reachOf, rulesOf, ruleStart, firstOf}
+use Rattle.accepted.specs.Parts.{secondOf, kindOf, valueOf, valuesAt}
+use Rattle.accepted.specs.Places.{noRule, ruleOf, fields-count, count-is, setting-is, field-ends, reach-is, rules-is, rule-right}
+use Rattle.accepted.specs.Places.{first-is, second-is, kind-is, value-is, tail-ends, rule-ends, rule-values}
 
 -- Fields, counts and settings; reach; rules, their fields, kinds and numbers. Those named `..-end`, `rule-after` and the second part of
 -- `mask-lt` say that a place lies within the list.
@@ -59,12 +62,14 @@ ruled-floor : (n floor : ℕ) (d : ℕ → ℕ) (rs : List Rule) → Ruled n d f
 ruled-floor n floor d rs ruled-none h = absurd (omega arith)
 ruled-floor n floor d rs (ruled-one l g t) h = l
 
-ruled-next : (n floor : ℕ) (d : ℕ → ℕ) (rs : List Rule) → Ruled n d floor rs → (r : ℕ) → suc r < length rs → keyOf (getD rs r noRule) < keyOf (getD rs (suc r) noRule)
+ruled-next : (n floor : ℕ) (d : ℕ → ℕ) (rs : List Rule) → Ruled n d floor rs → (r : ℕ) → suc r < length rs
+    → keyOf (getD rs r noRule) < keyOf (getD rs (suc r) noRule)
 ruled-next n floor d rs ruled-none r h = absurd (omega arith)
 ruled-next n floor d rs (ruled-one {rs = ts} l g t) zero h = let q = ruled-floor n _ d ts t (omega arith) in omega arith
 ruled-next n floor d rs (ruled-one {rs = ts} l g t) (suc r) h = ruled-next n _ d ts t r (omega arith)
 
-values-some : (s : Sheet) (r : Rule) → ((f : ℕ) → f < length (s .fields) → 1 ≤ counted s f) → RuleRight (length (s .fields)) (counted s) r → 1 ≤ length (r .values)
+values-some : (s : Sheet) (r : Rule) → ((f : ℕ) → f < length (s .fields) → 1 ≤ counted s f) → RuleRight (length (s .fields)) (counted s) r
+    → 1 ≤ length (r .values)
 values-some s r h g =
     let a = g .apart in
     let b = g .within in
@@ -73,11 +78,14 @@ values-some s r h g =
 mask-of : (s : Sheet) (r : Rule) (a : ℕ) → RuleRight (length (s .fields)) (counted s) r → r .kind ≡ 0 → a < counted s (r .i)
     → (a < length (r .values)) × (getD (r .values) a 0 < 2 ^ counted s (r .j))
 mask-of s r a g z h =
-    ⊎-elim (λ v. let k : a < length (r .values) = omega (arith, v .1) in (k, below-at _ (r .values) (v .2) a k)) (λ v. absurd (v .0 z)) (g .numbers)
+    ⊎-elim (λ v. let k : a < length (r .values) = omega (arith, v .1) in (k, below-at _ (r .values) (v .2) a k))
+    (λ v. absurd (v .0 z)) (g .numbers)
 
-amount-of : (s : Sheet) (r : Rule) → RuleRight (length (s .fields)) (counted s) r → (r .kind ≡ 0 → ⊥) → (0 < length (r .values)) × (getD (r .values) 0 0 < largestSetting + 1)
+amount-of : (s : Sheet) (r : Rule) → RuleRight (length (s .fields)) (counted s) r → (r .kind ≡ 0 → ⊥)
+    → (0 < length (r .values)) × (getD (r .values) 0 0 < largestSetting + 1)
 amount-of s r g z =
-    ⊎-elim (λ v. absurd (z (v .0))) (λ v. let k : 0 < length (r .values) = omega (arith, v .1) in (k, below-at (largestSetting + 1) (r .values) (v .2) 0 k)) (g .numbers)
+    ⊎-elim (λ v. absurd (z (v .0)))
+    (λ v. let k : 0 < length (r .values) = omega (arith, v .1) in (k, below-at (largestSetting + 1) (r .values) (v .2) 0 k)) (g .numbers)
 
 module _ (xs : List ℕ) (t : IsSheet xs) where
   in-fields : {f : ℕ} → f < fieldsOf xs → f < length (t .sheet .fields)
@@ -101,13 +109,18 @@ module _ (xs : List ℕ) (t : IsSheet xs) where
         rw (setting-is xs t f v (in-fields h) l) (rises-at 0 _ (t .right .field f (in-fields h) .rise) v l .1);
     setting-rise = λ f v h k.
         let l : suc v < length (getD (t .sheet .fields) f []) = rw (count-is xs t f (in-fields h)) at k in
-        rw (setting-is xs t f v (in-fields h) (omega arith), setting-is xs t f (suc v) (in-fields h) l) (rises-next 0 _ (t .right .field f (in-fields h) .rise) v l);
+        rw (setting-is xs t f v (in-fields h) (omega arith), setting-is xs t f (suc v) (in-fields h) l)
+        (rises-next 0 _ (t .right .field f (in-fields h) .rise) v l);
     tail-end = tail-ends xs t;
     reach-some = rw (reach-is xs t) (t .right .reach-some);
     reach-few = rw (reach-is xs t) (t .right .reach-few);
     rules-few = rw (rules-is xs t) (t .right .rules-few);
     rule-end = λ r h.
-        omega (arith, rule-ends xs t r (in-rules h), values-some (t .sheet) (ruleOf (t .sheet) r) (λ f k. t .right .field f k .some) (rule-right xs t r (in-rules h)));
+        omega (
+          arith,
+          rule-ends xs t r (in-rules h),
+          values-some (t .sheet) (ruleOf (t .sheet) r) (λ f k. t .right .field f k .some) (rule-right xs t r (in-rules h)),
+        );
     rule-after = λ r h. rw (rule-values xs t r (in-rules h)) (rule-ends xs t r (in-rules h));
     apart = λ r h. rw (first-is xs t r (in-rules h), second-is xs t r (in-rules h)) (rule-right xs t r (in-rules h) .apart);
     within = λ r h. rw (second-is xs t r (in-rules h), fields-count xs t) (rule-right xs t r (in-rules h) .within);

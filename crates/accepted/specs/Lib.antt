@@ -18,5 +18,6 @@ pub mod Outline
 pub mod Order
 pub mod Theorems
 pub mod Reads
+pub mod Produces
 pub mod Refused
 pub mod Cases

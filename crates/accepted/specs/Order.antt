@@ -1,4 +1,5 @@
--- The order of an accepted sheet's settings and rules: settings rise within a field, and rules by (i, j), so no pair has two. Assumes nothing.
+-- The order of an accepted sheet's settings and rules: settings rise within a field, and rules by (i, j), so no pair has two.
+-- Assumes nothing.
 use mathlib.Core.Path.{_≡_, refl, ap, ap₂}
 use mathlib.Core.Logic.{_⊎_, inl, inr}
 use mathlib.Core.Bool.{Bool, true, false}

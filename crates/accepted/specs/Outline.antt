@@ -1,7 +1,7 @@
 -- The outline of a sheet: how many fields it has, its reach, and the set of all its settings. Assumes nothing.
-use mathlib.Core.Path.{_≡_, refl, sym, ap, _∙_}
+use mathlib.Core.Path.{_≡_, sym, ap, _∙_}
 use mathlib.Core.Logic.{⊎-elim}
-use mathlib.Core.Bool.{Bool, true, false, _&&_, and-true}
+use mathlib.Core.Bool.{true, false, _&&_, and-true}
 use mathlib.Core.List.{List}
 use Prim.Native.Nat.{ℕ, _+_, _-_, _*_, _%_, _^_, _≤_, _<_}
 use native.Mathlib.Omega.{arith}
@@ -11,7 +11,7 @@ use lib.Pow.{pow-pos}
 use borrow.Author.Tests.{ltb-true, ltb-false}
 use Rattle.limits.specs.Limits.{mostFields, mostSettings}
 use Rattle.masks.specs.Tests.{bool-cases}
-use Rattle.masks.specs.Bits.{bit, bit-of-zero}
+use Rattle.masks.specs.Bits.{bit-of-zero}
 use Rattle.masks.specs.Masks.{maskOf, bit-maskOf, maskOf-all}
 use Rattle.masks.specs.Words.{one-shl}
 use Rattle.masks.specs.Sets.{has, pad, getD-pad}
@@ -27,7 +27,8 @@ settingsOf xs f = maskOf (countOf xs f) (λ v. true)
 
 -- The outline of the sheet with the numbers xs: for each field the mask of its positions, 0 past its fields.
 unfoldable pub outlineOf : List ℕ → Outline
-outlineOf xs = record { fields = fieldsOf xs; reach = reachOf xs; full = pad (mostFields - fieldsOf xs) (tabulate (fieldsOf xs) (settingsOf xs)) }
+outlineOf xs =
+    record { fields = fieldsOf xs; reach = reachOf xs; full = pad (mostFields - fieldsOf xs) (tabulate (fieldsOf xs) (settingsOf xs)) }
 
 -- every position, as code spells it
 pub positions-code : (d : ℕ) → d ≤ mostSettings → (1 ≤ 1 * 2 ^ d % 2 ^ 32) × (1 * 2 ^ d % 2 ^ 32 - 1 ≡ maskOf d (λ v. true))
@@ -39,11 +40,13 @@ positions-code d h =
 module _ (xs : List ℕ) where
   pub full-at : (f : ℕ) → f < fieldsOf xs → getD (outlineOf xs .full) f 0 ≡ settingsOf xs f
   unfolding outlineOf
-  full-at f h = getD-pad (mostFields - fieldsOf xs) (tabulate (fieldsOf xs) (settingsOf xs)) f ∙ getD-tabulate (fieldsOf xs) (settingsOf xs) f h
+  full-at f h =
+      getD-pad (mostFields - fieldsOf xs) (tabulate (fieldsOf xs) (settingsOf xs)) f ∙ getD-tabulate (fieldsOf xs) (settingsOf xs) f h
 
   pub full-past : (f : ℕ) → fieldsOf xs ≤ f → getD (outlineOf xs .full) f 0 ≡ 0
   unfolding outlineOf
-  full-past f h = getD-pad (mostFields - fieldsOf xs) (tabulate (fieldsOf xs) (settingsOf xs)) f ∙ tabulate-past (fieldsOf xs) (settingsOf xs) f h
+  full-past f h =
+      getD-pad (mostFields - fieldsOf xs) (tabulate (fieldsOf xs) (settingsOf xs)) f ∙ tabulate-past (fieldsOf xs) (settingsOf xs) f h
 
   -- a setting is on the sheet where its field and its position are
   pub full-has : (f v : ℕ) → has (outlineOf xs .full) f v ≡ (ltb f (fieldsOf xs) && ltb v (countOf xs f))
@@ -85,7 +88,8 @@ module _ (xs : List ℕ) (n f : ℕ) (full : List ℕ) where
           (r ∙ ap (λ (k : ℕ). maskOf k (λ v. true)) q) (p .filling);
     }
 
-  pub outlining-last : (reach : ℕ) → Outlining xs n f full → n ≤ f → reach ≡ reachOf xs → record { fields = n; reach = reach; full = full } ≡ outlineOf xs
+  pub outlining-last : (reach : ℕ) → Outlining xs n f full → n ≤ f → reach ≡ reachOf xs
+      → record { fields = n; reach = reach; full = full } ≡ outlineOf xs
   unfolding outlineOf
   outlining-last reach p l r =
       let e = p .fields in

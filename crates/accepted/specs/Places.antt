@@ -9,8 +9,10 @@ use lib.ListN.{length, getD, drop, length-append, length-drop, List·getD-append
 use lib.Seq.{drop-cons, drop-drop, getD-drop, drop-append-seam, drop-length}
 use borrow.Author.Tests.{eq-eqb, ne-eqb}
 use Rattle.masks.specs.Pick.{pick-true, pick-false}
-use Rattle.accepted.specs.Sheets.{Rule, Sheet, fieldsNumbers, rulesNumbers, sheetNumbers, RuleRight, Ruled, ruled-none, ruled-one, counted, IsSheet}
-use Rattle.accepted.specs.Parts.{fieldStart, fieldsOf, countOf, settingOf, reachOf, rulesOf, valuesAt, ruleStart, firstOf, secondOf, kindOf, valueOf}
+use Rattle.accepted.specs.Sheets.{Rule, Sheet, fieldsNumbers, rulesNumbers, sheetNumbers, RuleRight, Ruled, ruled-none, ruled-one}
+use Rattle.accepted.specs.Sheets.{counted, IsSheet}
+use Rattle.accepted.specs.Parts.{fieldStart, fieldsOf, countOf, settingOf, reachOf, rulesOf, valuesAt, ruleStart, firstOf, secondOf}
+use Rattle.accepted.specs.Parts.{kindOf, valueOf}
 
 getD-at : (xs : List ℕ) (p i x : ℕ) (ys : List ℕ) → drop p xs ≡ ys → getD ys i 0 ≡ x → getD xs (p + i) 0 ≡ x
 getD-at xs p i x ys e q = sym (getD-drop p xs i 0) ∙ ap (λ (l : List ℕ). getD l i 0) e ∙ q
@@ -68,7 +70,8 @@ module _ (xs : List ℕ) (t : IsSheet xs) where
       ∙ drop-past xs (fieldStart xs f) (length (getD fs f []) ∷ getD fs f []) _ e
 
   -- the facts of field f
-  field-at : (f : ℕ) → f < length fs → drop (fieldStart xs f) xs ≡ (length (getD fs f []) ∷ getD fs f []) ++ (fieldsNumbers (drop (suc f) fs) ++ tail)
+  field-at : (f : ℕ) → f < length fs
+      → drop (fieldStart xs f) xs ≡ (length (getD fs f []) ∷ getD fs f []) ++ (fieldsNumbers (drop (suc f) fs) ++ tail)
   field-at f h = field-from f h (fields-from f (omega arith))
 
   pub count-is : (f : ℕ) → f < length fs → countOf xs f ≡ length (getD fs f [])
@@ -78,13 +81,16 @@ module _ (xs : List ℕ) (t : IsSheet xs) where
   setting-is f v h k =
       let p : fieldStart xs f + 1 + v ≡ fieldStart xs f + suc v = omega arith in
       ap (λ (i : ℕ). getD xs i 0) p
-      ∙ getD-at xs (fieldStart xs f) (suc v) _ _ (field-at f h) (List·getD-append (getD fs f []) (fieldsNumbers (drop (suc f) fs) ++ tail) 0 v k)
+      ∙ getD-at xs (fieldStart xs f) (suc v) _ _ (field-at f h)
+      (List·getD-append (getD fs f []) (fieldsNumbers (drop (suc f) fs) ++ tail) 0 v k)
 
   -- a field stands before the end
   pub field-ends : (f : ℕ) → f < length fs → fieldStart xs f + 1 + length (getD fs f []) < length xs
   unfolding tail
   field-ends f h =
-      let e = ap length (drop-past xs (fieldStart xs f) (length (getD fs f []) ∷ getD fs f []) (fieldsNumbers (drop (suc f) fs) ++ tail) (field-at f h)) in
+      let e =
+      ap length
+      (drop-past xs (fieldStart xs f) (length (getD fs f []) ∷ getD fs f []) (fieldsNumbers (drop (suc f) fs) ++ tail) (field-at f h)) in
       omega (arith, e, length-drop (fieldStart xs f + suc (length (getD fs f []))) xs, length-append (fieldsNumbers (drop (suc f) fs)) tail)
 
   end-from : drop (fieldStart xs (fieldsOf xs)) xs ≡ tail
@@ -139,7 +145,8 @@ module _ (xs : List ℕ) (t : IsSheet xs) where
   rules-from (suc r) h =
       let ih = rules-from r (omega arith) in
       let d = values-size (ruleStart xs r) r h ih in
-      let q : ruleStart xs r + 3 + valuesAt xs (ruleStart xs r) ≡ ruleStart xs r + suc (suc (suc (length (getD rs r noRule .values)))) = omega arith in
+      let q : ruleStart xs r + 3 + valuesAt xs (ruleStart xs r)
+      ≡ ruleStart xs r + suc (suc (suc (length (getD rs r noRule .values)))) = omega arith in
       ap (λ (k : ℕ). drop k xs) q ∙ drop-past xs (ruleStart xs r) (rulePart (getD rs r noRule)) _ (rule-from (ruleStart xs r) r h ih)
 
   rule-at : (r : ℕ) → r < length rs
@@ -155,11 +162,13 @@ module _ (xs : List ℕ) (t : IsSheet xs) where
   pub kind-is : (r : ℕ) → r < length rs → kindOf xs r ≡ ruleOf (t .sheet) r .kind
   kind-is r h = getD-at xs (ruleStart xs r) 2 _ _ (rule-at r h) refl
 
-  pub value-is : (r a : ℕ) → r < length rs → a < length (ruleOf (t .sheet) r .values) → valueOf xs r a ≡ getD (ruleOf (t .sheet) r .values) a 0
+  pub value-is : (r a : ℕ) → r < length rs → a < length (ruleOf (t .sheet) r .values)
+      → valueOf xs r a ≡ getD (ruleOf (t .sheet) r .values) a 0
   value-is r a h k =
       let p : ruleStart xs r + 3 + a ≡ ruleStart xs r + suc (suc (suc a)) = omega arith in
       ap (λ (i : ℕ). getD xs i 0) p
-      ∙ getD-at xs (ruleStart xs r) (suc (suc (suc a))) _ _ (rule-at r h) (List·getD-append (getD rs r noRule .values) (rulesNumbers (drop (suc r) rs)) 0 a k)
+      ∙ getD-at xs (ruleStart xs r) (suc (suc (suc a))) _ _ (rule-at r h)
+      (List·getD-append (getD rs r noRule .values) (rulesNumbers (drop (suc r) rs)) 0 a k)
 
   -- a rule stands before the end
   pub rule-ends : (r : ℕ) → r < length rs → ruleStart xs r + 3 + length (ruleOf (t .sheet) r .values) ≤ length xs

@@ -15,11 +15,13 @@ use Rattle.sheet.specs.declared.answer.Answer.{Answer}
 use Rattle.accepted.specs.Accept.{bytes-accepted}
 use Rattle.accepted.specs.Theorems.{enough-room}
 
-module _ (sheet list : List ℕ) (room : mostNumbers ≤ length list) (r : Answer) (front : List ℕ) (g : Gives (reading sheet list) r front) where
+module _ (sheet list : List ℕ) (room : mostNumbers ≤ length list) (r : Answer) (front : List ℕ)
+    (g : Gives (reading sheet list) r front) where
   abbrev xs : List ℕ
   xs = numbers (ofBytes sheet)
 
-  read-is : (t : Bool) → eqb (refusal (ofBytes sheet)) 0 ≡ t → reading sheet list ≡ pick t (giving xs list) (refusing (refusal (ofBytes sheet)) list)
+  read-is : (t : Bool) → eqb (refusal (ofBytes sheet)) 0 ≡ t
+      → reading sheet list ≡ pick t (giving xs list) (refusing (refusal (ofBytes sheet)) list)
   read-is t e = enough-room sheet list room ∙ ap (λ (b : Bool). pick b (giving xs list) (refusing (refusal (ofBytes sheet)) list)) e
 
   -- the sheet is refused by 1 to 5
@@ -28,7 +30,9 @@ module _ (sheet list : List ℕ) (room : mostNumbers ≤ length list) (r : Answe
     not-read = go (eqb (refusal (ofBytes sheet)) 0) refl
       where
         go : (t : Bool) → eqb (refusal (ofBytes sheet)) 0 ≡ t → eqb (refusal (ofBytes sheet)) 0 ≡ false
-        go true e = absurd (n (ap (λ (a : Answer). a .number) (g .answers ∙ ap (λ (o : Produced). o .answer) (read-is true e ∙ pick-true _ _ _ refl))))
+        go true e =
+            absurd
+            (n (ap (λ (a : Answer). a .number) (g .answers ∙ ap (λ (o : Produced). o .answer) (read-is true e ∙ pick-true _ _ _ refl))))
         go false e = e
 
     given : reading sheet list ≡ refusing (refusal (ofBytes sheet)) list
@@ -47,7 +51,9 @@ module _ (sheet list : List ℕ) (room : mostNumbers ≤ length list) (r : Answe
       where
         go : (t : Bool) → eqb (refusal (ofBytes sheet)) 0 ≡ t → refusal (ofBytes sheet) ≡ 0
         go true e = eqb-true _ 0 e
-        go false e = sym (ap (λ (a : Answer). a .number) (g .answers ∙ ap (λ (o : Produced). o .answer) (read-is false e ∙ pick-false _ _ _ refl))) ∙ z
+        go false e =
+            sym (ap (λ (a : Answer). a .number) (g .answers ∙ ap (λ (o : Produced). o .answer) (read-is false e ∙ pick-false _ _ _ refl)))
+            ∙ z
 
     gave : reading sheet list ≡ giving xs list
     gave = read-is true (eq-eqb _ 0 read-accepted) ∙ pick-true _ _ _ refl

@@ -65,7 +65,8 @@ pub record RuleRight (n : ℕ) (d : ℕ → ℕ) (r : Rule) : Type 0 where
 -- rules from a floor on, strictly rising by (i, j)
 pub data Ruled (n : ℕ) (d : ℕ → ℕ) : ℕ → List Rule → Type 0 where
   ruled-none : {floor : ℕ} → Ruled n d floor []
-  ruled-one : {floor : ℕ} {r : Rule} {rs : List Rule} → floor ≤ key (r .i) (r .j) → RuleRight n d r → Ruled n d (key (r .i) (r .j) + 1) rs → Ruled n d floor (r ∷ rs)
+  ruled-one : {floor : ℕ} {r : Rule} {rs : List Rule} → floor ≤ key (r .i) (r .j) → RuleRight n d r → Ruled n d (key (r .i) (r .j) + 1) rs
+      → Ruled n d floor (r ∷ rs)
 
 -- the count of a field's settings
 abbrev pub counted : Sheet → ℕ → ℕ

@@ -12,7 +12,8 @@ use borrow.Author.Tests.{ltb-true, ltb-false}
 use Rattle.groups.specs.Groups.{encode, size-1, size-2, size-3, size-4}
 use Rattle.limits.specs.Limits.{mostFields, mostSettings, largestSetting, mostBytes, mostNumbers}
 use Rattle.sheet.specs.Sources.{bytesOf, Accepted}
-use Rattle.accepted.specs.Sheets.{Rule, Sheet, fieldsNumbers, rulesNumbers, sheetNumbers, Rises, rises-none, rises-one, Below, below-none, below-one, FieldRight, ValuesRight, Ruled, ruled-none, ruled-one, Right, counted}
+use Rattle.accepted.specs.Sheets.{Rule, Sheet, fieldsNumbers, rulesNumbers, sheetNumbers, Rises, rises-none, rises-one, Below}
+use Rattle.accepted.specs.Sheets.{below-none, below-one, FieldRight, ValuesRight, Ruled, ruled-none, ruled-one, Right, counted}
 use Rattle.accepted.specs.AcceptedSheet.{sheet-in}
 
 -- ---- how many groups
@@ -51,7 +52,8 @@ sized-none : Sized 0 0 []
 unfolding bytesOf
 sized-none = record { bytes = omega arith; count = omega arith; below = λ k. omega arith }
 
-sized-one : (g room most x : ℕ) (xs : List ℕ) → length (encode x) ≤ g → x < 2 ^ 28 → Sized room most xs → Sized (g + room) (suc most) (x ∷ xs)
+sized-one : (g room most x : ℕ) (xs : List ℕ) → length (encode x) ≤ g → x < 2 ^ 28 → Sized room most xs
+    → Sized (g + room) (suc most) (x ∷ xs)
 unfolding bytesOf
 sized-one g room most x xs h k t = record {
   bytes = omega (arith, length-append (encode x) (bytesOf xs), t .bytes);
@@ -71,7 +73,8 @@ unfolding bytesOf
 bytes-append [] ys = refl
 bytes-append (x ∷ xs) ys = ap (λ (l : List ℕ). encode x ++ l) (bytes-append xs ys) ∙ sym (append-assoc (encode x) (bytesOf xs) (bytesOf ys))
 
-sized-append : (room most room′ most′ : ℕ) (xs ys : List ℕ) → Sized room most xs → Sized room′ most′ ys → Sized (room + room′) (most + most′) (xs ++ ys)
+sized-append : (room most room′ most′ : ℕ) (xs ys : List ℕ) → Sized room most xs → Sized room′ most′ ys
+    → Sized (room + room′) (most + most′) (xs ++ ys)
 sized-append room most room′ most′ xs ys t u = record {
   bytes = omega (arith, ap length (bytes-append xs ys), length-append (bytesOf xs) (bytesOf ys), t .bytes, u .bytes);
   count = omega (arith, length-append xs ys, t .count, u .count);
@@ -86,14 +89,17 @@ sized-append room most room′ most′ xs ys t u = record {
 sized-rises : (floor : ℕ) (xs : List ℕ) → Rises floor xs → Sized (3 * length xs) (length xs) xs
 sized-rises floor xs rises-none = sized-none
 sized-rises floor xs (rises-one {x = x} {xs = ys} p q t) =
-    sized-more (3 + 3 * length ys) (suc (length ys)) _ _ (x ∷ ys) (omega arith) (omega arith) (sized-one 3 _ _ x ys (groups-three x (omega arith)) (omega arith) (sized-rises (x + 1) ys t))
+    sized-more (3 + 3 * length ys) (suc (length ys)) _ _ (x ∷ ys) (omega arith) (omega arith)
+    (sized-one 3 _ _ x ys (groups-three x (omega arith)) (omega arith) (sized-rises (x + 1) ys t))
 
 sized-below : (b : ℕ) (xs : List ℕ) → b ≤ 2 ^ mostSettings → Below b xs → Sized (4 * length xs) (length xs) xs
 sized-below b xs h below-none = sized-none
 sized-below b xs h (below-one {x = x} {xs = ys} p t) =
-    sized-more (4 + 4 * length ys) (suc (length ys)) _ _ (x ∷ ys) (omega arith) (omega arith) (sized-one 4 _ _ x ys (groups-le x) (omega arith) (sized-below b ys h t))
+    sized-more (4 + 4 * length ys) (suc (length ys)) _ _ (x ∷ ys) (omega arith) (omega arith)
+    (sized-one 4 _ _ x ys (groups-le x) (omega arith) (sized-below b ys h t))
 
-sized-fields : (fs : List (List ℕ)) → ((k : ℕ) → k < length fs → FieldRight (getD fs k [])) → Sized (73 * length fs) (25 * length fs) (fieldsNumbers fs)
+sized-fields : (fs : List (List ℕ)) → ((k : ℕ) → k < length fs → FieldRight (getD fs k []))
+    → Sized (73 * length fs) (25 * length fs) (fieldsNumbers fs)
 unfolding fieldsNumbers
 sized-fields [] h = sized-none
 sized-fields (f ∷ fs) h =
@@ -103,21 +109,26 @@ sized-fields (f ∷ fs) h =
     (sized-one 1 _ _ (length f) _ (omega (arith, size-1 (length f) (omega arith))) (omega arith)
     (sized-append _ _ _ _ f (fieldsNumbers fs) (sized-rises 0 f (g .rise)) (sized-fields fs (λ k l. h (suc k) (omega arith)))))
 
-sized-values : (n : ℕ) (d : ℕ → ℕ) (r : Rule) → ((k : ℕ) → k < n → d k ≤ mostSettings) → r .i < n → r .j < n → ValuesRight d r → Sized (4 * mostSettings) mostSettings (r .values)
+sized-values : (n : ℕ) (d : ℕ → ℕ) (r : Rule) → ((k : ℕ) → k < n → d k ≤ mostSettings) → r .i < n → r .j < n → ValuesRight d r
+    → Sized (4 * mostSettings) mostSettings (r .values)
 sized-values n d r h p q (inl v) =
     let a = h (r .i) p in
-    sized-more (4 * length (r .values)) (length (r .values)) (4 * mostSettings) mostSettings _ (omega (arith, v .1)) (omega (arith, v .1)) (sized-below (2 ^ d (r .j)) (r .values) (pow-mono (h (r .j) q)) (v .2))
+    sized-more (4 * length (r .values)) (length (r .values)) (4 * mostSettings) mostSettings _ (omega (arith, v .1)) (omega (arith, v .1))
+    (sized-below (2 ^ d (r .j)) (r .values) (pow-mono (h (r .j) q)) (v .2))
 sized-values n d r h p q (inr v) =
-    sized-more (4 * length (r .values)) (length (r .values)) (4 * mostSettings) mostSettings _ (omega (arith, v .1)) (omega (arith, v .1)) (sized-below (largestSetting + 1) (r .values) (omega arith) (v .2))
+    sized-more (4 * length (r .values)) (length (r .values)) (4 * mostSettings) mostSettings _ (omega (arith, v .1)) (omega (arith, v .1))
+    (sized-below (largestSetting + 1) (r .values) (omega arith) (v .2))
 
-sized-rules : (n floor : ℕ) (d : ℕ → ℕ) (rs : List Rule) → n ≤ mostFields → ((k : ℕ) → k < n → d k ≤ mostSettings) → Ruled n d floor rs → Sized (99 * length rs) (27 * length rs) (rulesNumbers rs)
+sized-rules : (n floor : ℕ) (d : ℕ → ℕ) (rs : List Rule) → n ≤ mostFields → ((k : ℕ) → k < n → d k ≤ mostSettings) → Ruled n d floor rs
+    → Sized (99 * length rs) (27 * length rs) (rulesNumbers rs)
 unfolding rulesNumbers
 sized-rules n floor d rs m h ruled-none = sized-none
 sized-rules n floor d rs m h (ruled-one {r = r} {rs = ts} l g t) =
     let a = g .apart in
     let b = g .within in
     let k = g .kind-le in
-    sized-more (1 + (1 + (1 + (4 * mostSettings + 99 * length ts)))) (suc (suc (suc (mostSettings + 27 * length ts)))) _ _ _ (omega arith) (omega arith)
+    sized-more (1 + (1 + (1 + (4 * mostSettings + 99 * length ts)))) (suc (suc (suc (mostSettings + 27 * length ts)))) _ _ _
+    (omega arith) (omega arith)
     (sized-one 1 _ _ (r .i) _ (omega (arith, size-1 (r .i) (omega arith))) (omega arith)
     (sized-one 1 _ _ (r .j) _ (omega (arith, size-1 (r .j) (omega arith))) (omega arith)
     (sized-one 1 _ _ (r .kind) _ (omega (arith, size-1 (r .kind) (omega arith))) (omega arith)
@@ -129,7 +140,8 @@ sized-sheet s g =
     let w = g .few in
     let m = g .rules-few in
     let a = g .reach-few in
-    sized-more (1 + (73 * length (s .fields) + (1 + (2 + 99 * length (s .rules))))) (suc (25 * length (s .fields) + suc (suc (27 * length (s .rules))))) _ _ _ (omega arith) (omega arith)
+    sized-more (1 + (73 * length (s .fields) + (1 + (2 + 99 * length (s .rules)))))
+    (suc (25 * length (s .fields) + suc (suc (27 * length (s .rules))))) _ _ _ (omega arith) (omega arith)
     (sized-one 1 _ _ (length (s .fields)) _ (omega (arith, size-1 (length (s .fields)) (omega arith))) (omega arith)
     (sized-append _ _ _ _ (fieldsNumbers (s .fields)) _ (sized-fields (s .fields) (g .field))
     (sized-one 1 _ _ (s .reach) _ (omega (arith, size-1 (s .reach) (omega arith))) (omega arith)

@@ -2,14 +2,15 @@
 use mathlib.Core.Path.{_≡_, refl, sym, ap, ap₂, _∙_}
 use mathlib.Core.Bool.{Bool, true, false}
 use mathlib.Core.List.{List, [], _∷_}
-use Prim.Native.Nat.{ℕ, _<_, _≤_}
+use Prim.Native.Nat.{ℕ, _≤_}
 use native.Mathlib.Omega.{arith}
 use lib.Dec.{eqb}
-use lib.ListN.{length, getD}
+use lib.ListN.{length}
 use borrow.Author.Tests.{le-leb, eq-eqb, eqb-true}
 use Rattle.masks.specs.Pick.{pick, pick-true, pick-false}
 use Rattle.limits.specs.Limits.{mostBytes, mostNumbers}
-use Rattle.sheet.specs.Sources.{refusal, numbers, ofBytes, ofNumbers, bytesOf, Accepted, AcceptedBytes, produced, refusing, giving, reading, writing}
+use Rattle.sheet.specs.Sources.{refusal, numbers, ofBytes, ofNumbers, bytesOf, Accepted, AcceptedBytes, produced, refusing, giving, reading}
+use Rattle.sheet.specs.Sources.{writing}
 use Rattle.accepted.specs.Round.{numbers-bytes, bytes-numbers}
 use Rattle.accepted.specs.Accept.{accepted-numbers, bytes-accepted}
 use Rattle.accepted.specs.Sheets.{IsSheet}
@@ -41,29 +42,36 @@ same-numbers : (xs : List ℕ) → Accepted xs → ofBytes (bytesOf xs) ≡ ofNu
 same-numbers xs e = numbers-bytes xs (sized-in xs e .below)
 
 -- Accepted bytes are the bytes of their numbers.
-same-bytes : (s : List ℕ) → ((k : ℕ) → getD s k 0 < 256) → AcceptedBytes s → bytesOf (numbers (ofBytes s)) ≡ s
-same-bytes s h e = sym (bytes-numbers (numbers (ofBytes s)) s h (accepted-numbers (ofBytes s) e))
+same-bytes : (s : List ℕ) → AcceptedBytes s → bytesOf (numbers (ofBytes s)) ≡ s
+same-bytes s e = sym (bytes-numbers (numbers (ofBytes s)) s (accepted-numbers (ofBytes s) e))
 
 -- a source that is accepted, over an output with room for its values
-given : (number : ℕ) (values before : List ℕ) → number ≡ 0 → length values ≤ length before → produced number values before ≡ giving values before
+given : (number : ℕ) (values before : List ℕ) → number ≡ 0 → length values ≤ length before
+    → produced number values before ≡ giving values before
 given number values before z h = pick-true _ _ _ (eq-eqb number 0 z) ∙ pick-true _ _ _ (le-leb (length values) (length before) h)
 
--- Written, then read: the same numbers, for every accepted list.
-pub written-read : (xs before : List ℕ) → Accepted xs → length xs ≤ length before → reading (bytesOf xs) before ≡ giving xs before
-written-read xs before e h =
-    ap₂ (λ (number : ℕ) (values : List ℕ). produced number values before) (ap refusal (same-numbers xs e)) (ap numbers (same-numbers xs e) ∙ numbers-of xs)
-    ∙ given _ xs before e h
+-- Written, then read: the same numbers, for every accepted list; whatever room is lent, and with room for them.
+pub written-read-in : (xs before : List ℕ) → Accepted xs → reading (bytesOf xs) before ≡ produced 0 xs before
+written-read-in xs before e =
+    ap₂ (λ (number : ℕ) (values : List ℕ). produced number values before) (ap refusal (same-numbers xs e) ∙ e)
+    (ap numbers (same-numbers xs e) ∙ numbers-of xs)
 
--- Read, then written: the same bytes, for every accepted sheet.
-pub read-written : (s before : List ℕ) → ((k : ℕ) → getD s k 0 < 256) → AcceptedBytes s → length s ≤ length before
+pub written-read : (xs before : List ℕ) → Accepted xs → length xs ≤ length before → reading (bytesOf xs) before ≡ giving xs before
+written-read xs before e h = written-read-in xs before e ∙ given 0 xs before refl h
+
+-- Read, then written: the same bytes, for every accepted sheet; whatever room is lent, and with room for them.
+pub read-written-in : (s before : List ℕ) → AcceptedBytes s
+    → writing (numbers (ofBytes s)) before ≡ produced 0 s before
+read-written-in s before e =
+    ap₂ (λ (number : ℕ) (values : List ℕ). produced number values before) (bytes-accepted s e) (same-bytes s e)
+
+pub read-written : (s before : List ℕ) → AcceptedBytes s → length s ≤ length before
     → writing (numbers (ofBytes s)) before ≡ giving s before
-read-written s before h e l =
-    ap (λ (values : List ℕ). produced (refusal (ofNumbers (numbers (ofBytes s)))) values before) (same-bytes s h e)
-    ∙ given _ s before (bytes-accepted s e) l
+read-written s before e l = read-written-in s before e ∙ given 0 s before refl l
 
 -- An accepted sheet has at most 29,080 bytes and 8,055 numbers, whichever of the two it is given as.
-pub most-sheet-bytes : (s : List ℕ) → ((k : ℕ) → getD s k 0 < 256) → AcceptedBytes s → length s ≤ mostBytes
-most-sheet-bytes s h e = rw (← same-bytes s h e) (most-bytes _ (bytes-accepted s e))
+pub most-sheet-bytes : (s : List ℕ) → AcceptedBytes s → length s ≤ mostBytes
+most-sheet-bytes s e = rw (← same-bytes s e) (most-bytes _ (bytes-accepted s e))
 
 pub most-sheet-numbers : (s : List ℕ) → AcceptedBytes s → length (numbers (ofBytes s)) ≤ mostNumbers
 most-sheet-numbers s e = most-numbers (numbers (ofBytes s)) (bytes-accepted s e)
@@ -74,7 +82,8 @@ pub enough-room : (s before : List ℕ) → mostNumbers ≤ length before
 enough-room s before h = go (eqb (refusal (ofBytes s)) 0) refl
   where
     go : (t : Bool) → eqb (refusal (ofBytes s)) 0 ≡ t
-        → reading s before ≡ pick (eqb (refusal (ofBytes s)) 0) (giving (numbers (ofBytes s)) before) (refusing (refusal (ofBytes s)) before)
+        → reading s before
+        ≡ pick (eqb (refusal (ofBytes s)) 0) (giving (numbers (ofBytes s)) before) (refusing (refusal (ofBytes s)) before)
     go true e =
         let z : refusal (ofBytes s) ≡ 0 = eqb-true (refusal (ofBytes s)) 0 e in
         let l : length (numbers (ofBytes s)) ≤ length before = omega (arith, most-sheet-numbers s z) in

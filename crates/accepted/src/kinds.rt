@@ -21,7 +21,8 @@ fn distance(p: u64, q: u64) -> u64
     if q <= p { p - q } else { q - p }
 }
 
-// Whether a rule of a kind allows a pair: p is the setting of i, and q that of j, at position b; c is the rule's number, or, for kind 0, its mask of p's position.
+// Whether a rule of a kind allows a pair: p is the setting of i, and q that of j, at position b; c is the rule's number, or, for kind 0,
+// its mask of p's position.
 pub fn allowed(kind: u32, c: u32, p: u32, q: u32, b: u32) -> bool
     ensures { λ r. ⌜ r ≡ allows kind c p q b ⌝ }
 {

@@ -3,7 +3,8 @@ ghost use mathlib.Core.Path.{_≡_};
 ghost use Prim.Native.Nat.{_+_, _<_, _≤_};
 ghost use lib.ListN.{length, getD};
 ghost use Rattle.sheet.specs.Sources.{Accepted};
-ghost use Rattle.accepted.specs.Parts.{Field, FieldAt, RuleAt, fieldsOf, fieldStart, countOf, settingOf, reachOf, rulesOf, ruleStart, firstOf, secondOf, kindOf, numberOf};
+ghost use Rattle.accepted.specs.Parts.{Field, FieldAt, RuleAt, fieldsOf, fieldStart, countOf, settingOf, reachOf, rulesOf};
+ghost use Rattle.accepted.specs.Parts.{ruleStart, firstOf, secondOf, kindOf, numberOf};
 
 fn at(numbers: &[u32], place: usize) -> u32
     requires { ⌜ place < length (now numbers) ⌝ }

@@ -10,7 +10,7 @@ use Rattle.sheet.specs.Sources.{numbers, ofBytes}
 use Rattle.ledger.specs.declared.Call.{Call}
 use Rattle.ledger.specs.Ledger.{Given, offersOf, step, spaceShort, number}
 use Rattle.session.specs.declared.Session.{Session}
-use Rattle.session.specs.View.{view}
+use Rattle.session.specs.View.{view, Sized}
 use Rattle.session.specs.Steps.{stepped}
 
 -- the spaces that a call is lent: the offers list and the two work spaces
@@ -24,8 +24,14 @@ spaces offers rows memory = record { offers = offers; rows = rows; memory = memo
 
 -- what the ledger is fed of a call: all but the session, of the spaces their lengths
 abbrev pub given : (sheet : List ℕ) (engine : ℕ) (order : List ℕ) → Spaces → Given
-given sheet engine order lent =
-    record { sheet = sheet; engine = engine; order = order; offers = length (lent .offers); rows = length (lent .rows); memory = length (lent .memory) }
+given sheet engine order lent = record {
+  sheet = sheet;
+  engine = engine;
+  order = order;
+  offers = length (lent .offers);
+  rows = length (lent .rows);
+  memory = length (lent .memory);
+}
 
 -- the masks in front; later words are untouched
 abbrev pub written : List ℕ → List ℕ → List ℕ
@@ -49,9 +55,12 @@ unfoldable pub result : Given → Call → Session → List ℕ → CallResult
 result g c s before =
     pick (eqb (number g c (view s)) 0) (accepted (numbers (ofBytes (g .sheet))) c s before) (refused (number g c (view s)) s before)
 
--- The promise of every call. What the work spaces hold after it is free, except that 6 leaves them as they were.
+-- The promise of every call. What the work spaces hold after it is free, except that 6 leaves them as they were. `sized` is a fact of the
+-- session that the call was given, and holds by its type: so neither a caller nor the theorem over sequences assumes it.
 pub record Answers (call : Call) (session : Session) (sheet : List ℕ) (engine : ℕ) (order : List ℕ) (lent : Spaces)
     (number : ℕ) (session′ : Session) (left : Spaces) : Type 0 where
-  pub answers : record { number = number; session = session′; offers = left .offers } ≡ result (given sheet engine order lent) call session (lent .offers)
+  pub sized : Sized session
+  pub answers : record { number = number; session = session′; offers = left .offers }
+      ≡ result (given sheet engine order lent) call session (lent .offers)
   pub rows-kept : spaceShort (given sheet engine order lent) ≡ true → left .rows ≡ lent .rows
   pub memory-kept : spaceShort (given sheet engine order lent) ≡ true → left .memory ≡ lent .memory

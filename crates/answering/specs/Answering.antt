@@ -1,22 +1,21 @@
 -- An answer, put together from its parts. Assumes nothing.
-use mathlib.Core.Path.{_≡_, refl, sym, ap, _∙_}
+use mathlib.Core.Path.{_≡_, refl, sym, _∙_}
 use mathlib.Core.Bool.{Bool, true, false, _||_}
 use mathlib.Core.List.{List}
 use Prim.Native.Nat.{ℕ, _≤_}
 use native.Mathlib.Omega.{arith}
-use lib.Dec.{eqb, ltb}
-use lib.ListN.{length, take}
+use lib.Dec.{ltb}
+use lib.ListN.{length}
 use borrow.Author.Tests.{eq-eqb, ne-eqb, ltb-false}
 use Rattle.limits.specs.Limits.{mostNumbers, offersWords, rowsWords, memoryWords}
 use Rattle.limits.specs.Refusals.{TOO-SHORT, WIPED-OUT}
 use Rattle.masks.specs.Tests.{never}
-use Rattle.masks.specs.Pick.{pick, pick-true, pick-false}
-use Rattle.sheet.specs.Sources.{refusal, numbers, ofBytes, Accepted}
-use Rattle.accepted.specs.declared.outline.Outline.{Outline}
+use Rattle.masks.specs.Pick.{pick-true, pick-false}
+use Rattle.sheet.specs.Sources.{refusal, numbers, ofBytes}
 use Rattle.accepted.specs.Accept.{bytes-accepted}
 use Rattle.accepted.specs.Outline.{outlineOf}
 use Rattle.ledger.specs.declared.Call.{Call}
-use Rattle.ledger.specs.Ledger.{Given, Cause, step, wiped, offersOf, spaceShort, number, first, judged, isOrder}
+use Rattle.ledger.specs.Ledger.{Given, Cause, step, wiped, spaceShort, number, first, judged, isOrder}
 use Rattle.ledger.specs.Causes.{first-end, first-applies, first-next}
 use Rattle.ledger.specs.Laws.{SameLedger, alike-wiped, alike-offers}
 use Rattle.ledger.specs.Judging.{or-left, or-right, not-back, clear, number-short, number-sheet, number-judged, number-offers}
@@ -49,7 +48,7 @@ roomy offers rows memory e =
       sheet-room = omega arith;
     }
 
-module _ (c : Call) (s : Session) (sheet : List ℕ) (engine : ℕ) (order : List ℕ) (lent : Spaces) where
+module _ (c : Call) (s : Session) (d : Sized s) (sheet : List ℕ) (engine : ℕ) (order : List ℕ) (lent : Spaces) where
   abbrev g : Given
   g = given sheet engine order lent
 
@@ -68,8 +67,10 @@ module _ (c : Call) (s : Session) (sheet : List ℕ) (engine : ℕ) (order : Lis
   result-accepted k = sym (pick-true _ _ _ (eq-eqb _ 0 k))
 
   -- by 6
-  pub answers-short : true ≡ shortBy (length (lent .offers)) (length (lent .rows)) (length (lent .memory)) → Answers c s sheet engine order lent TOO-SHORT s lent
+  pub answers-short : true ≡ shortBy (length (lent .offers)) (length (lent .rows)) (length (lent .memory))
+      → Answers c s sheet engine order lent TOO-SHORT s lent
   answers-short e = record {
+    sized = d;
     answers = result-refused TOO-SHORT (λ z. omega arith) (number-short g c (view s) (unfold spaceShort in sym e));
     rows-kept = λ _. refl;
     memory-kept = λ _. refl;
@@ -80,17 +81,25 @@ module _ (c : Call) (s : Session) (sheet : List ℕ) (engine : ℕ) (order : Lis
     long = unfold spaceShort in sym e
 
     -- whatever the work spaces then hold
-    answers-by : (k : ℕ) (t : Session) (left : Spaces) → record { number = k; session = t; offers = left .offers } ≡ result g c s (lent .offers)
+    answers-by : (k : ℕ) (t : Session) (left : Spaces)
+        → record { number = k; session = t; offers = left .offers } ≡ result g c s (lent .offers)
         → Answers c s sheet engine order lent k t left
-    answers-by k t left q = record { answers = q; rows-kept = λ t. absurd (never t long); memory-kept = λ t. absurd (never t long) }
+    answers-by k t left q = record {
+      sized = d;
+      answers = q;
+      rows-kept = λ t. absurd (never t long);
+      memory-kept = λ t. absurd (never t long);
+    }
 
     -- by 1 to 5
-    pub answers-sheet : (k : ℕ) (left : Spaces) → left .offers ≡ lent .offers → (k ≡ 0 → ⊥) → k ≡ refusal (ofBytes sheet) → Answers c s sheet engine order lent k s left
+    pub answers-sheet : (k : ℕ) (left : Spaces) → left .offers ≡ lent .offers → (k ≡ 0 → ⊥) → k ≡ refusal (ofBytes sheet)
+        → Answers c s sheet engine order lent k s left
     answers-sheet k left o n q = answers-by k s left (rw o (result-refused k n (number-sheet g c (view s) long k n q)))
 
     module _ (z : refusal (ofBytes sheet) ≡ 0) where
       -- by 15 and 7 to 13
-      pub answers-judged : (k : ℕ) (left : Spaces) → left .offers ≡ lent .offers → (k ≡ 0 → ⊥) → k ≡ first found → Answers c s sheet engine order lent k s left
+      pub answers-judged : (k : ℕ) (left : Spaces) → left .offers ≡ lent .offers → (k ≡ 0 → ⊥) → k ≡ first found
+          → Answers c s sheet engine order lent k s left
       answers-judged k left o n q = answers-by k s left (rw o (result-refused k n (number-judged g c (view s) long z k n q)))
 
       -- by 14, or by none
@@ -101,7 +110,8 @@ module _ (c : Call) (s : Session) (sheet : List ℕ) (engine : ℕ) (order : Lis
         pub is-order : isOrder (outlineOf ys .fields) order ≡ true
         is-order = not-back _ (clear (outlineOf ys) c engine order (view s) v .of-order .1 .0)
 
-        module _ (d : Sized s) (t : Session) (q : t ≡ stepped c s) (w : Bool) (left : Spaces) (p : Settled ys (view t) (lent .offers) w (left .offers)) where
+        module _ (t : Session) (q : t ≡ stepped c s) (w : Bool) (left : Spaces)
+            (p : Settled ys (view t) (lent .offers) w (left .offers)) where
           same-step : SameLedger (view t) (step c (view s))
           same-step = rw q (shows-step ys (bytes-accepted sheet z) engine order s c d (clear (outlineOf ys) c engine order (view s) v))
 

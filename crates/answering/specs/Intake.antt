@@ -1,5 +1,5 @@
 -- A sheet taken in. Assumes nothing.
-use mathlib.Core.Path.{_≡_, refl, sym, _∙_}
+use mathlib.Core.Path.{_≡_, sym}
 use mathlib.Core.List.{List}
 use Prim.Native.Nat.{ℕ, _≤_}
 use lib.ListN.{length, take}
@@ -18,8 +18,10 @@ pub record TakenIn (sheet : List ℕ) (r : Intake) (memory : List ℕ) : Type 0 
   pub front : r .number ≡ 0 → take (r .length) memory ≡ numbers (ofBytes sheet)
   pub ends : r .number ≡ 0 → r .length ≤ length memory
 
-module _ (sheet before : List ℕ) (room : mostNumbers ≤ length before) (a : Answer) (memory : List ℕ) (g : Gives (reading sheet before) a memory) where
-  pub taken-refused : (none : Outline) → (a .number ≡ 0 → ⊥) → TakenIn sheet (record { number = a .number; length = a .length; outline = none }) memory
+module _ (sheet before : List ℕ) (room : mostNumbers ≤ length before) (a : Answer) (memory : List ℕ)
+    (g : Gives (reading sheet before) a memory) where
+  pub taken-refused : (none : Outline) → (a .number ≡ 0 → ⊥)
+      → TakenIn sheet (record { number = a .number; length = a .length; outline = none }) memory
   taken-refused none n = record {
     number = read-refused sheet before room a memory g n .0;
     outline = λ z. absurd (n z);
@@ -27,7 +29,8 @@ module _ (sheet before : List ℕ) (room : mostNumbers ≤ length before) (a : A
     ends = λ z. absurd (n z);
   }
 
-  pub taken-read : (o : Outline) → a .number ≡ 0 → o ≡ outlineOf (take (a .length) memory) → TakenIn sheet (record { number = 0; length = a .length; outline = o }) memory
+  pub taken-read : (o : Outline) → a .number ≡ 0 → o ≡ outlineOf (take (a .length) memory)
+      → TakenIn sheet (record { number = 0; length = a .length; outline = o }) memory
   taken-read o z e =
       let f = read-front sheet before room a memory g z in
       record {

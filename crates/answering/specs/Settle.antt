@@ -13,8 +13,8 @@ use lib.Seq.{getD-set-same, getD-set-other, ext-getD, getD-take, getD-drop, take
 use borrow.Author.Tests.{ltb-true, ltb-false}
 use Rattle.limits.specs.Limits.{mostFields, mostSettings, offersWords, rowsWords, memoryWords}
 use Rattle.masks.specs.Tests.{never, bool-cases, and-l, someBelow}
-use Rattle.masks.specs.Bits.{bit, bit-of-zero, lt-of-bits, bit-high, Within, within-le}
-use Rattle.masks.specs.Masks.{maskOf, maskOf-lt, keepBits, bit-keepBits}
+use Rattle.masks.specs.Bits.{bit, bit-of-zero, within-le}
+use Rattle.masks.specs.Masks.{maskOf-lt, keepBits, bit-keepBits}
 use Rattle.masks.specs.Sets.{has, pad, length-pad, getD-pad}
 use Rattle.masks.specs.Settings.{empty, someEmpty}
 use Rattle.masks.specs.Pick.{pick, pick-true, pick-false}
@@ -54,7 +54,8 @@ module _ (before m : List ℕ) where
   pub putting-next : (k : ℕ) (o : List ℕ) → k < length o → Putting before m k o → Putting before m (k + 1) (set o k (getD m k 0))
   putting-next k o h p = record {
     sized = length-set o k _ ∙ p .sized;
-    done = λ j l. ⊎-elim (λ (q : j ≡ k). rw q (getD-set-same o k (getD m k 0) 0 h)) (λ q. getD-set-other o k j _ 0 (λ z. omega arith) ∙ p .done j q)
+    done = λ j l. ⊎-elim (λ (q : j ≡ k). rw q (getD-set-same o k (getD m k 0) 0 h))
+        (λ q. getD-set-other o k j _ 0 (λ z. omega arith) ∙ p .done j q)
         (eq-or-lt-of-le (let i : j ≤ k = omega arith in i));
     rest = λ j l. getD-set-other o k j _ 0 (λ z. omega arith) ∙ p .rest j (omega arith);
   }
@@ -62,7 +63,8 @@ module _ (before m : List ℕ) where
   -- in front stand the first k words of m
   pub putting-end : (k : ℕ) (o : List ℕ) → k ≤ length m → k ≤ length before → Putting before m k o → o ≡ take k m ++ drop k before
   putting-end k o a b p = ext-getD 0 o _ (p .sized ∙ sym total) (λ j l. ⊎-elim
-      (λ q. let h = ltb-true j k q in p .done j h ∙ sym (getD-take k m j 0 h) ∙ sym (List·getD-append (take k m) (drop k before) 0 j (let n = front in omega arith)))
+      (λ q. let h = ltb-true j k q in
+      p .done j h ∙ sym (getD-take k m j 0 h) ∙ sym (List·getD-append (take k m) (drop k before) 0 j (let n = front in omega arith)))
       (λ q. let h = ltb-false j k q in p .rest j h ∙ sym (back j h))
       (bool-cases (ltb j k)))
     where
@@ -77,7 +79,8 @@ module _ (before m : List ℕ) where
           let n = front in
           let e : j ≡ length (take k m) + (j - k) = omega arith in
           let q : k + (j - k) ≡ j = omega arith in
-          ap (λ (i : ℕ). getD (take k m ++ drop k before) i 0) e ∙ getD-append-add (take k m) (drop k before) (j - k) 0 ∙ getD-drop k before (j - k) 0
+          ap (λ (i : ℕ). getD (take k m ++ drop k before) i 0) e ∙ getD-append-add (take k m) (drop k before) (j - k) 0
+          ∙ getD-drop k before (j - k) 0
           ∙ ap (λ (i : ℕ). getD before i 0) q
 
 -- ---- the start set, padded, is what an engine asks
@@ -106,7 +109,8 @@ module _ (xs : List ℕ) (a : Accepted xs) (ds : List Decision) where
   start-small : (f : ℕ) → getD padded f 0 < 2 ^ mostSettings
   start-small f = rw (getD-pad (mostFields - fieldsOf xs) S f) (⊎-elim
       (λ q. let h = ltb-true f (fieldsOf xs) q in
-      let l = within-le (mask f) (settings (outlineOf xs) f) (λ v b. and-l _ _ (sym (bit-keepBits (settings (outlineOf xs) f) (starts (outlineOf xs) ds f) v) ∙ b)) in
+      let all = settings (outlineOf xs) f in
+      let l = within-le (mask f) all (λ v b. and-l _ _ (sym (bit-keepBits all (starts (outlineOf xs) ds f) v) ∙ b)) in
       let m = full-at xs f h in
       let k = maskOf-lt (countOf xs f) (λ v. true) in
       let c = facts xs a .count-few f h in
@@ -119,12 +123,17 @@ module _ (xs : List ℕ) (a : Accepted xs) (ds : List Decision) where
   start-on : (f v : ℕ) → has padded f v ≡ true → f < fieldsOf xs
   unfolding has
   start-on f v b = ⊎-elim (λ q. ltb-true f (fieldsOf xs) q)
-      (λ q. absurd (never b (ap (λ (m : ℕ). bit m v) (getD-pad (mostFields - fieldsOf xs) S f ∙ start-past f (ltb-false f (fieldsOf xs) q)) ∙ bit-of-zero v)))
+      (λ q. let past = getD-pad (mostFields - fieldsOf xs) S f ∙ start-past f (ltb-false f (fieldsOf xs) q) in
+      absurd (never b (ap (λ (m : ℕ). bit m v) past ∙ bit-of-zero v)))
       (bool-cases (ltb f (fieldsOf xs)))
 
   -- an order by its test is what the engines ask of an order
   is-order : (order : List ℕ) → isOrder (fieldsOf xs) order ≡ true → IsOrder (fieldsOf xs) order
-  is-order order e = record { sized = order-sized (fieldsOf xs) order e; low = order-low (fieldsOf xs) order e; every = order-every (fieldsOf xs) order e }
+  is-order order e = record {
+    sized = order-sized (fieldsOf xs) order e;
+    low = order-low (fieldsOf xs) order e;
+    every = order-every (fieldsOf xs) order e;
+  }
 
   start-masks : Masks padded
   start-masks = record {
@@ -143,14 +152,18 @@ module _ (xs : List ℕ) (a : Accepted xs) (l : Ledger) where
 
   wiped-pad : wipedOut (sheetProblem xs) (reachOf xs) (padded xs a (l .decisions)) ≡ wiped xs l
   unfolding wipedOut wiped someEmpty empty
-  wiped-pad = rw (offers-pad (sheetProblem xs) (reachOf xs) (mostFields - fieldsOf xs) R₀)
-      (ap (someBelow (sheetProblem xs .fields)) (fun-ext (λ f. ap (λ (m : ℕ). eqb m 0) (getD-pad (mostFields - fieldsOf xs) (offers (sheetProblem xs) (reachOf xs) R₀) f))))
+  wiped-pad =
+      let more = mostFields - fieldsOf xs in
+      rw (offers-pad (sheetProblem xs) (reachOf xs) more R₀)
+      (ap (someBelow (sheetProblem xs .fields))
+      (fun-ext (λ f. ap (λ (m : ℕ). eqb m 0) (getD-pad more (offers (sheetProblem xs) (reachOf xs) R₀) f))))
 
   pub offers-sized : length (offersOf xs l) ≡ fieldsOf xs
   unfolding offersOf
   offers-sized = offers-is (sheetProblem xs) (reachOf xs) R₀ .sized ∙ start-sized xs a (l .decisions)
 
-  module _ (m R : List ℕ) (e : m ≡ startMasks (outlineOf xs) (l .decisions)) (t : Bool) (o : Offered (sheetProblem xs) (reachOf xs) m t R) where
+  module _ (m R : List ℕ) (e : m ≡ startMasks (outlineOf xs) (l .decisions)) (t : Bool)
+      (o : Offered (sheetProblem xs) (reachOf xs) m t R) where
     found : Offered (sheetProblem xs) (reachOf xs) (padded xs a (l .decisions)) t R
     found = rw (e ∙ start-is xs a (l .decisions)) at o
 
@@ -198,11 +211,13 @@ module _ (o : Outline) (net : Network) (order offers rows memory : List ℕ) (s 
       let xs = s .sheet in
       let a = p .accepted in
       let n : o .fields ≡ fieldsOf xs = rw (p .outline) (unfold outlineOf in refl) in
-      let q : m ≡ pad (mostFields - fieldsOf xs) (startSet (outlineOf xs) ds) = e ∙ rw (p .outline) (start-is xs a ds) in
-      rw q (run-asks xs a net (forwardOf rows) (turnedOf rows) (p .network) order (pad (mostFields - fieldsOf xs) (startSet (outlineOf xs) ds))
+      let S = pad (mostFields - fieldsOf xs) (startSet (outlineOf xs) ds) in
+      let q : m ≡ S = e ∙ rw (p .outline) (start-is xs a ds) in
+      rw q (run-asks xs a net (forwardOf rows) (turnedOf rows) (p .network) order S
       (is-order xs a ds order (rw n at (s .ordered))) (start-masks xs a ds) (start-on xs a ds))
 
-module _ (xs : List ℕ) (o : Outline) (net : Network) (rows : List ℕ) (p : Prepared xs o net rows) (l : Ledger) (before m R : List ℕ) (w : Bool)
+module _ (xs : List ℕ) (o : Outline) (net : Network) (rows : List ℕ) (p : Prepared xs o net rows)
+    (l : Ledger) (before m R : List ℕ) (w : Bool)
     (e : m ≡ startMasks o (l .decisions)) (r : Engine (problemIn net (forwardOf rows) (turnedOf rows)) (net .hood) m w R) where
   start : m ≡ startMasks (outlineOf xs) (l .decisions)
   start = rw (p .outline) at e
@@ -213,10 +228,12 @@ module _ (xs : List ℕ) (o : Outline) (net : Network) (rows : List ℕ) (p : Pr
   pub settled-wiped : w ≡ true → Settled xs l before true before
   settled-wiped y = record { wipes = sym y ∙ found-wiped xs (p .accepted) l m R start w ran; offers = sym (pick-true _ _ _ refl) }
 
-  pub settled-offers : w ≡ false → (after : List ℕ) → after ≡ take (o .fields) R ++ drop (o .fields) before → Settled xs l before false after
+  pub settled-offers : w ≡ false → (after : List ℕ) → after ≡ take (o .fields) R ++ drop (o .fields) before
+      → Settled xs l before false after
   settled-offers n after q = record {
     wipes = sym n ∙ found-wiped xs (p .accepted) l m R start w ran;
-    offers = q ∙ rw k (ap₂ (λ (x : List ℕ) (j : ℕ). x ++ drop j before) (found-offers xs (p .accepted) l m R start w ran n) (sym (offers-sized xs (p .accepted) l)))
+    offers = q ∙ rw k (ap₂ (λ (x : List ℕ) (j : ℕ). x ++ drop j before) (found-offers xs (p .accepted) l m R start w ran n)
+        (sym (offers-sized xs (p .accepted) l)))
         ∙ sym (pick-false _ _ _ refl);
   }
     where

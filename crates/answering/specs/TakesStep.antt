@@ -1,13 +1,12 @@
 -- A call that no cause before 14 refuses: its step can be taken, and shows the ledger's step. Assumes nothing.
-use mathlib.Core.Path.{_≡_, refl, sym, ap, _∙_}
-use mathlib.Core.Bool.{Bool, true, false, not, _&&_}
-use mathlib.Core.List.{List, _∷_}
+use mathlib.Core.Path.{_≡_, refl, sym, _∙_}
+use mathlib.Core.Bool.{true, false, _&&_}
+use mathlib.Core.List.{List}
 use Prim.Native.Nat.{ℕ, _-_, _≤_, _<_}
 use native.Mathlib.Omega.{arith}
-use lib.Dec.{eqb, ltb}
-use lib.ListN.{length}
+use lib.Dec.{ltb}
 use borrow.Author.Tests.{eqb-false, ltb-true}
-use Rattle.limits.specs.Limits.{mostFields, mostSettings, mostEvents}
+use Rattle.limits.specs.Limits.{mostFields, mostEvents}
 use Rattle.masks.specs.Tests.{never, and-l, and-r}
 use Rattle.masks.specs.Sets.{has}
 use Rattle.sheet.specs.Sources.{Accepted}
@@ -18,12 +17,13 @@ use Rattle.accepted.specs.Outline.{outlineOf, full-has}
 use Rattle.ledger.specs.declared.Event.{Event}
 use Rattle.ledger.specs.declared.Call.{Call}
 use Rattle.ledger.specs.declared.Call.the-variants.{Open, Show, Decide, Back, CoilOn}
-use Rattle.ledger.specs.Ledger.{Decision, choice, strike, Change, adds, withdraws, neither, changeOf, onSheet, revertible, reversible, malformed, offSheet, step}
+use Rattle.ledger.specs.Ledger.{Decision, changeOf, step}
+use Rattle.ledger.specs.Ledger.{onSheet, revertible, reversible, malformed, offSheet}
 use Rattle.ledger.specs.Kinds.{change-any}
 use Rattle.ledger.specs.Laws.{SameLedger}
 use Rattle.ledger.specs.Judging.{Clear, not-back, well-formed}
 use Rattle.session.specs.declared.Session.{Session}
-use Rattle.session.specs.View.{decisionsOf, past, length-past, events-counted, past-latest, view, Sized}
+use Rattle.session.specs.View.{decisionsOf, length-past, events-counted, past-latest, view, Sized}
 use Rattle.session.specs.Steps.{stepped, latest, RecordAsks, UndoAsks, StepAsks, view-step}
 
 module _ (xs : List ℕ) (a : Accepted xs) where
@@ -40,16 +40,23 @@ module _ (xs : List ℕ) (a : Accepted xs) where
       let m = facts xs a .count-few f h in
       (omega arith, omega arith)
 
-  -- so does that of a change which 7 does not refuse, or which can be reversed
-  placed-low : (e : Event) → offSheet o (changeOf e) ≡ false → (e .field < mostFields) × (e .position < 32)
-  unfolding onSheet
-  placed-low e = change-any (e .kind) (e .field) (e .position) (λ k. offSheet o k ≡ false → (e .field < mostFields) × (e .position < 32))
-      (λ q. on-low _ _ (not-back _ q)) (λ q. on-low _ _ (not-back _ q)) (λ q. on-low _ _ (not-back _ q)) (λ q. on-low _ _ (not-back _ q)) (λ q. absurd (never refl q))
+  abbrev Low : Event → Type 0
+  Low e = (e .field < mostFields) × (e .position < 32)
 
-  revertible-low : (e : Event) (ds : List Decision) → revertible o (changeOf e) ds ≡ true → (e .field < mostFields) × (e .position < 32)
+  -- so does that of a change which 7 does not refuse, or which can be reversed
+  placed-low : (e : Event) → offSheet o (changeOf e) ≡ false → Low e
   unfolding onSheet
-  revertible-low e ds = change-any (e .kind) (e .field) (e .position) (λ k. revertible o k ds ≡ true → (e .field < mostFields) × (e .position < 32))
-      (λ q. on-low _ _ (and-l _ _ q)) (λ q. on-low _ _ (and-l _ _ q)) (λ q. on-low _ _ (and-l _ _ q)) (λ q. on-low _ _ (and-l _ _ q)) (λ q. absurd (never q refl))
+  placed-low e =
+      change-any (e .kind) (e .field) (e .position) (λ k. offSheet o k ≡ false → Low e)
+      (λ q. on-low _ _ (not-back _ q)) (λ q. on-low _ _ (not-back _ q)) (λ q. on-low _ _ (not-back _ q)) (λ q. on-low _ _ (not-back _ q))
+      (λ q. absurd (never refl q))
+
+  revertible-low : (e : Event) (ds : List Decision) → revertible o (changeOf e) ds ≡ true → Low e
+  unfolding onSheet
+  revertible-low e ds =
+      change-any (e .kind) (e .field) (e .position) (λ k. revertible o k ds ≡ true → Low e)
+      (λ q. on-low _ _ (and-l _ _ q)) (λ q. on-low _ _ (and-l _ _ q)) (λ q. on-low _ _ (and-l _ _ q)) (λ q. on-low _ _ (and-l _ _ q))
+      (λ q. absurd (never q refl))
 
   module _ (engine : ℕ) (order : List ℕ) (s : Session) where
     few : malformed o (view s) ≡ false → s .count ≤ mostEvents
@@ -70,7 +77,8 @@ module _ (xs : List ℕ) (a : Accepted xs) where
     undo-asks v =
         let z = eqb-false (s .count) 0 (sym (events-counted s 0) ∙ v .of-step .0) in
         let some : 0 < s .count = omega arith in
-        let rest : (revertible o (changeOf (latest s)) (decisionsOf (s .decisions)) && _) ≡ true = rw (past-latest (s .events) (s .count) some) at (well-formed o (view s) (v .of-session .0) .2) in
+        let rest : (revertible o (changeOf (latest s)) (decisionsOf (s .decisions)) && _) ≡ true =
+        rw (past-latest (s .events) (s .count) some) at (well-formed o (view s) (v .of-session .0) .2) in
         let l = revertible-low (latest s) (decisionsOf (s .decisions)) (and-l _ _ rest) in
         record { some = some; few = few (v .of-session .0); field = l .0; position = l .1 }
 

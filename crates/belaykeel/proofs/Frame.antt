@@ -5,7 +5,8 @@
 --     frees-row, frees-one     a row is freed, and a single local
 --     Row, next, finds         an environment has a row from local i on, and so local i lies there
 --     Holds                    what a formula says is in the context, and can be put back there
---     entry, first, second, member, behind     ways to show it: an entry, a part of what is held, a field of a struct, behind one more entry
+--     entry, first, second,    ways to show it: an entry, a part of what is held, a field of a struct,
+--     member, behind           behind one more entry
 --     reads, held, part        a cell that is held is read; a local, and a field of one
 use mathlib.Core.Path.{_≡_, refl, sym, ap, subst, _∙_}
 use Prim.Native.Nat.{ℕ, zero, suc, _+_}

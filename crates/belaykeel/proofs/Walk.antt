@@ -42,8 +42,8 @@ use Rattle.belaykeel.proofs.Frame.{entry, held, part}
 use Rattle.belaykeel.proofs.Parameters.{lifetimes, rows, spelling, tells, spelled, values, lent-values, stored, sent}
 use Rattle.belaykeel.proofs.Parameters.{after, fits, lending, sending}
 use Rattle.belaykeel.proofs.Promise.{Ends, ends, asks-no-more, begins, returned, answers}
-use Rattle.belaykeel.proofs.Outcome.{mach, code, session-typed, session-open, session-shut}
-use Rattle.belaykeel.proofs.Outcome.{Returned, AnswerValue, answer-type, answer-owned, answer-val, row, fields, owned, type, Known, knows}
+use Rattle.belaykeel.proofs.Outcome.{mach, code, session-typed, session-open, session-shut, Returned, AnswerValue, answer-type}
+use Rattle.belaykeel.proofs.Outcome.{answer-owned, answer-val, row, fields, owned, type, Known, knows}
 use Rattle.belaykeel.proofs.Outer.{Says, reference, out, copied, on, function, inner-rows, outer-rows, Inside, Outside, Inner, Outer}
 
 -- ---- positions in a context. The locals stand behind k other entries: the rows of the parameters and of the slices that are lent on, and

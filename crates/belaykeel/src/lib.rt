@@ -1,5 +1,6 @@
-// Belaykeel for C and Rust: each call with the session by `&mut`. What a call answers is said in the crate `answering`. A slice is a pointer and a
-// length; a caller in C answers for it that the pointer is valid for that length and that what is written overlaps nothing else that is lent.
+// Belaykeel for C and Rust: each call with the session by `&mut`. What a call answers is said in the crate `answering`. A slice is a
+// pointer and a length; a caller in C answers for it that the pointer is valid for that length and that what is written overlaps nothing
+// else that is lent.
 ghost use Rattle.ledger.specs.declared.Call.{Call};
 ghost use Rattle.ledger.specs.Ledger.{CHOOSE, STRIKE, WITHDRAW-CHOICE, WITHDRAW-STRIKE, decides};
 ghost use Rattle.answering.specs.Answer.{spaces, Answers};
@@ -119,7 +120,8 @@ pub extern "C" fn belaykeel_withdraw_choice(
     rows: &mut [u32],
     memory: &mut [u32],
 ) -> u32
-    ensures { λ r. ⌜ Answers (decides WITHDRAW-CHOICE field position) (now (session .entry)) (now (sheet .entry)) engine (now (order .entry))
+    ensures { λ r. ⌜ Answers (decides WITHDRAW-CHOICE field position) (now (session .entry))
+        (now (sheet .entry)) engine (now (order .entry))
         (spaces (now (offers .entry)) (now (rows .entry)) (now (memory .entry)))
         r (now (session .exit)) (spaces (now (offers .exit)) (now (rows .exit)) (now (memory .exit))) ⌝ }
 {
@@ -150,7 +152,8 @@ pub extern "C" fn belaykeel_withdraw_strike(
     rows: &mut [u32],
     memory: &mut [u32],
 ) -> u32
-    ensures { λ r. ⌜ Answers (decides WITHDRAW-STRIKE field position) (now (session .entry)) (now (sheet .entry)) engine (now (order .entry))
+    ensures { λ r. ⌜ Answers (decides WITHDRAW-STRIKE field position) (now (session .entry))
+        (now (sheet .entry)) engine (now (order .entry))
         (spaces (now (offers .entry)) (now (rows .entry)) (now (memory .entry)))
         r (now (session .exit)) (spaces (now (offers .exit)) (now (rows .exit)) (now (memory .exit))) ⌝ }
 {

@@ -1,5 +1,5 @@
--- The first bytes of an input decide it: a sheet has at most 8,055 numbers of at most four bytes, and the number after them is the last that is
--- looked at. So the program reads 32,768 bytes and no more. Assumes nothing.
+-- The first bytes of an input decide it: a sheet has at most 8,055 numbers of at most four bytes, and the number after them is the last
+-- that is looked at. So the program reads 32,768 bytes and no more. Assumes nothing.
 use mathlib.Core.Path.{_≡_, refl, sym, ap, _∙_}
 use mathlib.Core.Logic.{⊎-elim}
 use mathlib.Core.Bool.{Bool, true, false, _&&_}
@@ -9,7 +9,7 @@ use native.Mathlib.Omega.{arith}
 use lib.Dec.{ltb, leb, eqb}
 use lib.ListN.{length, take, drop, getD, set, replicate}
 use lib.Seq.{take-take, take-all, length-take-le}
-use borrow.Author.Tests.{ltb-true, ltb-false, leb-true, eqb-false, ne-eqb}
+use borrow.Author.Tests.{ltb-true, ltb-false, leb-true, eqb-false}
 use Rattle.masks.specs.Tests.{and-l, and-r}
 use Rattle.masks.specs.Pick.{pick}
 use Rattle.limits.specs.Limits.{mostFields, mostSettings, mostNumbers, offersWords}
@@ -43,14 +43,15 @@ unfolding groups
 groups-front zero w v at l = refl
 groups-front (suc left) w v at [] = refl
 groups-front (suc left) w v at (b ∷ l) =
-    ap (λ (r : Number). pick (ltb b 128) (lastGroup (ltb 1 w && eqb b 0) (v + w * b) (at + 1)) r) (groups-front left (w * 128) (v + w * (b - 128)) (at + 1) l)
+    ap (λ (r : Number). pick (ltb b 128) (lastGroup (ltb 1 w && eqb b 0) (v + w * b) (at + 1)) (pick (ltb b 256) r IllFormed))
+    (groups-front left (w * 128) (v + w * (b - 128)) (at + 1) l)
 
 groups-within : (left w v at x next : ℕ) (l : List ℕ) → groups left w v at l ≡ Value x next → next ≤ at + left
 groups-within zero w v at x next l e = absurd (groups-nothing w v at x next l e)
 groups-within (suc left) w v at x next [] e = absurd (groups-empty (suc left) w v at x next e)
 groups-within (suc left) w v at x next (b ∷ l) e =
     ⊎-elim (λ r. let q = r .3 in omega arith)
-    (λ r. let q = groups-within left (w * 128) (v + w * (b - 128)) (at + 1) x next l (r .1) in omega arith)
+    (λ r. let q = groups-within left (w * 128) (v + w * (b - 128)) (at + 1) x next l (r .2) in omega arith)
     (groups-number left w v at b x next l e)
 
 number-front : (s : List ℕ) (k at : ℕ) → at + 4 ≤ k → numberAt (take k s) at ≡ numberAt s at
@@ -168,7 +169,8 @@ fits-ranged b t a ds p = fits-pick b t a OutOfRange ds p (λ e. tt)
 fits-ordered : (b : ℕ) (t : Bool) (a : State) (ds : List ℕ) → (t ≡ true → Fits b a ds) → Fits b (ordered t a) ds
 fits-ordered b t a ds p = fits-pick b t a OutOfOrder ds p (λ e. tt)
 
-fits-advance : (b n : ℕ) (e : Expected) (ds : List ℕ) (x : ℕ) → Fits (suc b) (Wants n e) ds → Fits b (advance n e ds x .0) (advance n e ds x .1)
+fits-advance : (b n : ℕ) (e : Expected) (ds : List ℕ) (x : ℕ) → Fits (suc b) (Wants n e) ds
+    → Fits b (advance n e ds x .0) (advance n e ds x .1)
 unfolding advance
 fits-advance b n Fields ds x h = fits-ranged b _ _ ds (λ t. let u = up-to mostFields x t in (omega arith, omega arith, h .2))
 fits-advance b n (Count f) ds x h =
@@ -228,10 +230,12 @@ judged-past OutOfOrder ds (num x) is h = refl
 judged-past OutOfOrder ds cut is h = refl
 judged-past OutOfOrder ds ill is h = refl
 
-judged-alike : (b : ℕ) (st : State) (ds : List ℕ) (is js : List Item) → Fits b st ds → Agree b is js → refusalFrom st ds is ≡ refusalFrom st ds js
+judged-alike : (b : ℕ) (st : State) (ds : List ℕ) (is js : List Item) → Fits b st ds → Agree b is js
+    → refusalFrom st ds is ≡ refusalFrom st ds js
 unfolding refusalFrom
 judged-alike b st ds is js h alike = refl
-judged-alike b st ds is js h (more {i = i} {j = j} {is = is′} {js = js′}) = judged-past st ds i is′ h ∙ sym (judged-past st ds j js′ h)
+judged-alike b st ds is js h (more {i = i} {j = j} {is = is′} {js = js′}) =
+    judged-past st ds i is′ h ∙ sym (judged-past st ds j js′ h)
 judged-alike b (Wants n e) ds is js h (then {b = c} {i = num x} {is = is′} {js = js′} a) =
     judged-alike c (advance n e ds x .0) (advance n e ds x .1) is′ js′ (fits-advance c n e ds x h) a
 judged-alike b Complete ds is js h (then {i = num x} a) = refl
@@ -244,24 +248,27 @@ pub first-bytes : (s : List ℕ) (k : ℕ) → 32224 ≤ k → refusal (ofBytes 
 first-bytes s k h = go (ltb k (length s)) refl
   where
     go : (t : Bool) → ltb k (length s) ≡ t → refusal (ofBytes (take k s)) ≡ refusal (ofBytes s)
-    go true e = let l = ltb-true k (length s) e in judged-alike mostNumbers start noCounts _ _ (omega arith, tt, low-none mostFields) (agree mostNumbers s k 0 (omega arith) (omega arith))
+    go true e =
+        let l = ltb-true k (length s) e in
+        judged-alike mostNumbers start noCounts _ _ (omega arith, tt, low-none mostFields)
+        (agree mostNumbers s k 0 (omega arith) (omega arith))
     go false e = ap (λ (l : List ℕ). refusal (ofBytes l)) (take-all k s (ltb-false k (length s) e))
 
--- So the program, which reads 32,768 bytes, answers as open does to the whole input.
+-- So open answers to the 32,768 bytes that the program reads as to the whole input.
 abbrev pub inputBytes : ℕ
 inputBytes = 32768
 
-pub later-bytes : (s before : List ℕ) → ((k : ℕ) → getD s k 0 < 256) → offersWords ≤ length before
-    → opening (take inputBytes s) (fieldsOf (listOf (take inputBytes s))) before ≡ opening s (fieldsOf (listOf s)) before
-later-bytes s before h l = go (ltb inputBytes (length s)) refl
-  where
-    long : inputBytes < length s → refusal (ofBytes s) ≡ 0 → ⊥
-    long k z = omega (arith, most-sheet-bytes s h z)
+pub long-input : (s : List ℕ) → inputBytes < length s → refusal (ofBytes s) ≡ 0 → ⊥
+long-input s l z = omega (arith, most-sheet-bytes s z)
 
+pub later-bytes : (s before : List ℕ) → offersWords ≤ length before
+    → opening (take inputBytes s) (fieldsOf (listOf (take inputBytes s))) before ≡ opening s (fieldsOf (listOf s)) before
+later-bytes s before l = go (ltb inputBytes (length s)) refl
+  where
     go : (t : Bool) → ltb inputBytes (length s) ≡ t
         → opening (take inputBytes s) (fieldsOf (listOf (take inputBytes s))) before ≡ opening s (fieldsOf (listOf s)) before
     go true e =
-        let r = long (ltb-true inputBytes (length s) e) in
+        let r = long-input s (ltb-true inputBytes (length s) e) in
         let q = first-bytes s inputBytes (omega arith) in
         opening-refused (take inputBytes s) (fieldsOf (listOf (take inputBytes s))) before l (λ z. r (sym q ∙ z))
         ∙ ap {B = CallResult} (λ (k : ℕ). record { number = k; session = freshSession; offers = before }) q

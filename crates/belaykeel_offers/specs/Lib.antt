@@ -1,2 +1,4 @@
 pub mod Opening
 pub mod Input
+pub mod Page
+pub mod Cases

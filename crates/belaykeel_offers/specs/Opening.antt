@@ -34,7 +34,8 @@ opening sheet n before = result (givenTo sheet n (length before)) Open freshSess
 
 -- The call's promise in these words.
 pub opening-is : (sheet : List ℕ) (n : ℕ) (lent : Spaces) (s : Session) (k : ℕ) (s′ : Session) (left : Spaces)
-    → s ≡ freshSession → length (lent .rows) ≡ rowsWords → length (lent .memory) ≡ memoryWords → Answers Open s sheet 1 (take n rising) lent k s′ left
+    → s ≡ freshSession → length (lent .rows) ≡ rowsWords → length (lent .memory) ≡ memoryWords
+    → Answers Open s sheet 1 (take n rising) lent k s′ left
     → (k ≡ opening sheet n (lent .offers) .number) × (left .offers ≡ opening sheet n (lent .offers) .offers)
 opening-is sheet n lent s k s′ left e r m w = (ap (λ (a : CallResult). a .number) same, ap (λ (a : CallResult). a .offers) same)
   where

@@ -1,12 +1,12 @@
-// Reads a sheet from standard input, opens it with engine 1 and the fields in rising order, and prints the offers: a line for each field with
-// its position and the settings offered. For a sheet that is refused it prints the number.
+// Reads a sheet from standard input, opens it with engine 1 and the fields in rising order, and prints its page: a line for each field with
+// its position and the settings offered, or the number of the refusal.
 ghost use mathlib.Core.Path.{_≡_};
-ghost use Prim.Native.Nat.{_<_, _≤_};
-ghost use lib.ListN.{length};
-ghost use Rattle.limits.specs.Limits.{mostFields, mostNumbers, offersWords};
-ghost use Rattle.sheet.specs.Sources.{Accepted};
-ghost use Rattle.accepted.specs.Parts.{Field, countOf};
+ghost use Prim.Native.Nat.{_≤_};
+ghost use lib.ListN.{length, take};
+ghost use Rattle.limits.specs.Limits.{mostFields, mostNumbers, offersWords, textBytes};
+ghost use Rattle.belaykeel_offers.specs.Input.{inputBytes};
 ghost use Rattle.belaykeel_offers.specs.Opening.{opening, Opened};
+ghost use Rattle.belaykeel_offers.specs.Page.{pageOf};
 use accepted::parts;
 use calls::open;
 use libc::STDIN_FILENO;
@@ -15,13 +15,13 @@ use limits::MEMORY_WORDS;
 use limits::MOST_NUMBERS;
 use limits::OFFERS_WORDS;
 use limits::ROWS_WORDS;
-use masks::has_bit;
+use limits::TEXT_BYTES;
+use printing::text;
 use session::fresh;
 use sheet::answer::Answer;
 use sheet::answer::answered;
 use sheet::reading::read;
 
-// What comes later decides nothing: `later-bytes` in specs/Input.antt.
 const INPUT_BYTES: usize = 32768;
 
 // SAC-1.
@@ -63,63 +63,29 @@ fn opened(sheet: &[u8], numbers: &mut [u32], offers: &mut [u32; OFFERS_WORDS]) -
     answered(open_rising(sheet, n, offers), count)
 }
 
-fn print_refused(number: u32) {
-    io::write_all(STDOUT_FILENO, b"refused ");
-    io::print_decimal(STDOUT_FILENO, number as u64);
-    io::write_all(STDOUT_FILENO, b"\n");
-}
-
-// A blank and the setting, where the mask offers the position.
-fn print_offer(numbers: &[u32], f: usize, v: usize, mask: u32)
-    requires { ⌜ Field (now numbers) f × (v < countOf (now numbers) f) ⌝ }
+// Writes the page of a sheet over the front of the output; its length.
+fn page(sheet: &[u8], output: &mut [u8]) -> usize
+    requires { ⌜ textBytes ≤ length (now output) ⌝ }
+    ensures { λ r. ⌜ (take r (now (output .exit)) ≡ pageOf (now (sheet .entry))) × (r ≤ textBytes) ⌝ }
 {
-    if has_bit(mask, v) {
-        io::write_all(STDOUT_FILENO, b" ");
-        io::print_decimal(STDOUT_FILENO, parts::setting(numbers, f, v) as u64);
-    }
-}
-
-// The line of a field.
-fn print_field(numbers: &[u32], f: usize, mask: u32)
-    requires { ⌜ Field (now numbers) f ⌝ }
-{
-    io::print_decimal(STDOUT_FILENO, f as u64);
-    io::write_all(STDOUT_FILENO, b":");
-    let d = parts::count(numbers, f);
-    let mut v: usize = 0;
-    while v < d {
-        print_offer(numbers, f, v, mask);
-        v += 1;
-    }
-    io::write_all(STDOUT_FILENO, b"\n");
-}
-
-fn print_fields(numbers: &[u32], offers: &[u32; OFFERS_WORDS])
-    requires { ⌜ Accepted (now numbers) ⌝ }
-{
-    let n = parts::fields(numbers);
-    let mut f: usize = 0;
-    while f < n {
-        print_field(numbers, f, offers[f]);
-        f += 1;
-    }
-}
-
-// The offers of a sheet, or its refusal.
-fn print_offers(sheet: &[u8]) {
     let mut numbers = [0u32; MOST_NUMBERS];
     let mut offers = [0u32; OFFERS_WORDS];
     let answer = opened(sheet, &mut numbers, &mut offers);
-    if answer.number != 0 {
-        print_refused(answer.number);
-        return;
-    }
     let count = answer.length;
-    print_fields(&numbers[..count], &offers);
+    text(&numbers[..count], answer.number, &offers, output)
+}
+
+// Room for what the program reads. What comes later decides nothing: `page-of-input` in specs/Page.antt.
+fn input_room() -> [u8; INPUT_BYTES]
+    ensures { λ r. ⌜ inputBytes ≡ length r ⌝ }
+{
+    [0u8; INPUT_BYTES]
 }
 
 fn main() {
-    let mut input = [0u8; INPUT_BYTES];
+    let mut input = input_room();
+    let mut output = [0u8; TEXT_BYTES];
     let n = io::read_full(STDIN_FILENO, &mut input);
-    print_offers(&input[..n]);
+    let length = page(&input[..n], &mut output);
+    io::write_all(STDOUT_FILENO, &output[..length]);
 }

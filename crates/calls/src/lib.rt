@@ -1,5 +1,5 @@
-// The calls, the session by value. Each is given the sheet's bytes, an engine, an order of the fields, the decision that it is about if it is about
-// one, and the spaces that it is lent.
+// The calls, the session by value. Each is given the sheet's bytes, an engine, an order of the fields, the decision that it is about if
+// it is about one, and the spaces that it is lent.
 ghost use mathlib.Core.Path.{_≡_};
 ghost use Rattle.ledger.specs.declared.Call.the-variants.{Open, Show, Back, CoilOn};
 ghost use Rattle.ledger.specs.Ledger.{CHOOSE, STRIKE, WITHDRAW-CHOICE, WITHDRAW-STRIKE, decides};

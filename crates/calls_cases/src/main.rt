@@ -1,14 +1,14 @@
-// Cases of the calls, the session by value. Each call has a line: its number; the first three words of the offers list, all 9 before it; of the
-// session after it the choices and the strikes of fields 0 and 1, and the count of events.
+// Cases of the calls, through `answer`, which each call by value is. Each call has a line: its number; the first three words of the offers
+// list, all 9 before it; of the session after it the choices and the strikes of fields 0 and 1, and the count of events.
 mod forged; // forged.rt: sessions that no call has made
 mod line; // line.rt: the lines
 mod refused; // refused.rt: spaces, sheets, arguments, reaches and orders
 mod run; // run.rt: a call run on a sheet
 mod script; // script.rt: calls one after another, written as text
 
-use calls::decides;
 use ledger::STRIKE;
 use ledger::WITHDRAW_STRIKE;
+use run::decides;
 use run::quiet;
 use script::play;
 use session::Session;

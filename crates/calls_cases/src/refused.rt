@@ -3,12 +3,12 @@ ghost use Prim.Native.Nat.{_≤_};
 ghost use Rattle.limits.specs.Limits.{offersWords, rowsWords, memoryWords};
 use super::forged::overfull;
 use super::line;
-use super::run;
+use super::run::decides;
 use super::run::long_list;
 use super::run::on_d;
 use super::run::on_sheet;
 use super::script::one;
-use calls::decides;
+use answering::answer::answer;
 use ledger::CHOOSE;
 use ledger::Call;
 use ledger::STRIKE;
@@ -21,9 +21,9 @@ use session::fresh;
 
 // Open on a sheet that 2 would refuse, with every word of the spaces 5 before it.
 fn short_call(name: &[u8], offers: &mut [u32], rows: &mut [u32], memory: &mut [u32]) {
-    let out = run::call(
-        Call::Open,
+    let out = answer(
         fresh(),
+        Call::Open,
         b"\x80\x00",
         0,
         b"",

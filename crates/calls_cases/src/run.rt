@@ -1,18 +1,8 @@
 // A call run on a sheet.
 use super::line;
-use calls::back;
-use calls::choose;
-use calls::coil_on;
-use calls::open;
-use calls::show;
-use calls::strike;
-use calls::withdraw_choice;
-use calls::withdraw_strike;
-use ledger::CHOOSE;
+use answering::answer::answer;
 use ledger::Call;
 use ledger::Event;
-use ledger::STRIKE;
-use ledger::WITHDRAW_CHOICE;
 use limits::MEMORY_WORDS;
 use limits::OFFERS_WORDS;
 use limits::ROWS_WORDS;
@@ -25,46 +15,13 @@ pub const OFFERS_BEFORE: u32 = 9;
 
 pub const ROOM_BEFORE: u32 = 4294967295;
 
-// The call by the kind of its event.
-fn decide(
-    e: Event,
-    s: Session,
-    sheet: &[u8],
-    engine: u32,
-    order: &[u8],
-    offers: &mut [u32],
-    rows: &mut [u32],
-    memory: &mut [u32],
-) -> Outcome {
-    let kind = e.kind;
-    let f = e.field;
-    let v = e.position;
-    match kind {
-        CHOOSE => choose(s, sheet, engine, order, f, v, offers, rows, memory),
-        STRIKE => strike(s, sheet, engine, order, f, v, offers, rows, memory),
-        WITHDRAW_CHOICE => withdraw_choice(s, sheet, engine, order, f, v, offers, rows, memory),
-        _ => withdraw_strike(s, sheet, engine, order, f, v, offers, rows, memory),
-    }
-}
-
-// The call by its name.
-pub fn call(
-    what: Call,
-    s: Session,
-    sheet: &[u8],
-    engine: u32,
-    order: &[u8],
-    offers: &mut [u32],
-    rows: &mut [u32],
-    memory: &mut [u32],
-) -> Outcome {
-    match what {
-        Call::Open => open(s, sheet, engine, order, offers, rows, memory),
-        Call::Show => show(s, sheet, engine, order, offers, rows, memory),
-        Call::Decide(e) => decide(e, s, sheet, engine, order, offers, rows, memory),
-        Call::Back => back(s, sheet, engine, order, offers, rows, memory),
-        Call::CoilOn => coil_on(s, sheet, engine, order, offers, rows, memory),
-    }
+// A call that changes the decisions, by the kind of its event.
+pub fn decides(kind: u32, field: u32, position: u32) -> Call {
+    Call::Decide(Event {
+        kind,
+        field,
+        position,
+    })
 }
 
 // A call with work spaces of the least length.
@@ -78,9 +35,9 @@ fn roomy(
 ) -> Outcome {
     let mut rows = [ROOM_BEFORE; ROWS_WORDS];
     let mut memory = [ROOM_BEFORE; MEMORY_WORDS];
-    call(
-        what,
+    answer(
         s,
+        what,
         sheet,
         engine,
         order,

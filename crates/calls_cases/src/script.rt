@@ -1,7 +1,7 @@
 // Calls one after another, written as text. A call has four bytes: a letter, the digits of a field and a position, and a blank.
 use super::line;
+use super::run::decides;
 use super::run::on_d;
-use calls::decides;
 use ledger::CHOOSE;
 use ledger::Call;
 use ledger::Event;

@@ -10,7 +10,14 @@ use Rattle.ledger.specs.Ledger.{Given, Ledger, number, after}
 
 -- a sheet opened with engine 1, in rising order, with spaces just long enough
 abbrev pub given : List ℕ → Given
-given sheet = record { sheet = sheet; engine = 1; order = tabulate (fieldsOf (numbers (ofBytes sheet))) (λ f. f); offers = offersWords; rows = rowsWords; memory = memoryWords }
+given sheet = record {
+  sheet = sheet;
+  engine = 1;
+  order = tabulate (fieldsOf (numbers (ofBytes sheet))) (λ f. f);
+  offers = offersWords;
+  rows = rowsWords;
+  memory = memoryWords;
+}
 
 -- the numbers of calls one after the other, and the ledger after the last
 unfoldable pub answers : Given → Ledger → List Call → List ℕ
@@ -35,4 +42,6 @@ threeAndOne reach = 4 ∷ 2 ∷ 1 ∷ 2 ∷ 2 ∷ 1 ∷ 2 ∷ 2 ∷ 1 ∷ 2 ∷ 
 
 -- five such fields in a ring
 abbrev pub five : ℕ → List ℕ
-five reach = 5 ∷ 2 ∷ 1 ∷ 2 ∷ 2 ∷ 1 ∷ 2 ∷ 2 ∷ 1 ∷ 2 ∷ 2 ∷ 1 ∷ 2 ∷ 2 ∷ 1 ∷ 2 ∷ reach ∷ 5 ∷ 0 ∷ 1 ∷ 3 ∷ 1 ∷ 0 ∷ 4 ∷ 3 ∷ 1 ∷ 1 ∷ 2 ∷ 3 ∷ 1 ∷ 2 ∷ 3 ∷ 3 ∷ 1 ∷ 3 ∷ 4 ∷ 3 ∷ 1 ∷ []
+five reach =
+    5 ∷ 2 ∷ 1 ∷ 2 ∷ 2 ∷ 1 ∷ 2 ∷ 2 ∷ 1 ∷ 2 ∷ 2 ∷ 1 ∷ 2 ∷ 2 ∷ 1 ∷ 2 ∷ reach
+    ∷ 5 ∷ 0 ∷ 1 ∷ 3 ∷ 1 ∷ 0 ∷ 4 ∷ 3 ∷ 1 ∷ 1 ∷ 2 ∷ 3 ∷ 1 ∷ 2 ∷ 3 ∷ 3 ∷ 1 ∷ 3 ∷ 4 ∷ 3 ∷ 1 ∷ []

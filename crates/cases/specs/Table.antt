@@ -25,8 +25,9 @@ use Rattle.network.specs.SheetProblem.{runs, pairs, sheetProblem}
 use Rattle.ledger.specs.declared.Call.{Call}
 use Rattle.ledger.specs.declared.Call.the-variants.{Open}
 use Rattle.ledger.specs.Occurrences.{occurrences}
-use Rattle.ledger.specs.Ledger.{CHOOSE, STRIKE, WITHDRAW-STRIKE, changeBy, decides, sameDecision, inForce, without, opened, backed, step, otherChosen, starts}
-use Rattle.ledger.specs.Ledger.{startSet, offersOf, wiped, spaceShort, onSheet, allOnSheet, reversible, malformed, noEngine, isOrder, first, judged, causes, number, after}
+use Rattle.ledger.specs.Ledger.{CHOOSE, STRIKE, WITHDRAW-STRIKE, changeBy, decides, sameDecision, inForce, without, opened, backed, step}
+use Rattle.ledger.specs.Ledger.{otherChosen, starts, startSet, offersOf, wiped, spaceShort, onSheet, allOnSheet, reversible, malformed}
+use Rattle.ledger.specs.Ledger.{noEngine, isOrder, first, judged, causes, number, after}
 use Rattle.cases.specs.Problems.{allDifferent, ring}
 use Rattle.cases.specs.Calls.{given, answers, afterAll, single, three, threeAndOne, five}
 
@@ -47,7 +48,11 @@ agree false b = not b
 
 -- It opens all that it computes with, so a theorem says `unfolding allHold` and no more.
 unfoldable pub holds : Case → Bool
-unfolding agree wipedOut offers passes passesOver noneEmpty neighbourhood fieldsWithin widen allFields closing supported supportedBy partner largest sweeps sweep someEmpty empty cut same count only countBits countIn someBit someIn keepBits keepIn maskOf bit has pad someBelow allBelow answers afterAll tabulate occurrences number after first causes judged malformed noEngine isOrder spaceShort reversible allOnSheet onSheet inForce sameDecision without changeBy backed step otherChosen starts startSet offersOf wiped outlineOf refusalFrom numbers items numberAt groups pick advance fieldStart ruleStart sheetProblem runs pairs
+unfolding agree wipedOut offers passes passesOver noneEmpty neighbourhood fieldsWithin widen allFields closing supported supportedBy partner
+    largest sweeps sweep someEmpty empty cut same count only countBits countIn someBit someIn keepBits keepIn maskOf bit has pad someBelow
+    allBelow answers afterAll tabulate occurrences number after first causes judged malformed noEngine isOrder spaceShort reversible
+    allOnSheet onSheet inForce sameDecision without changeBy backed step otherChosen starts startSet offersOf wiped outlineOf refusalFrom
+    numbers items numberAt groups pick advance fieldStart ruleStart sheetProblem runs pairs
 holds (consistency P k S closed offered wiped) =
     same (closing P (allFields P) S) closed && same (offers P k S) offered && agree (wipedOut P k S) wiped
 holds (closes sheet S closed) =

@@ -9,85 +9,16 @@ use native.Mathlib.Omega.{arith}
 use lib.Bits.{bitOr}
 use lib.ListN.{length, getD}
 use Rattle.limits.specs.Limits.{mostFields}
-use Rattle.masks.specs.Tests.{never, not-so, bool-cases, eq-cases, or-l, or-r}
-use Rattle.masks.specs.Bits.{bit, bit-some, bit-of-zero, Within, within-le}
-use Rattle.masks.specs.Masks.{maskOf, maskOf-bound}
-use Rattle.masks.specs.Words.{bit-or, clear, clear-within, clear-same, clear-other, clear-gone}
+use Rattle.masks.specs.Tests.{never, not-so, eq-cases}
+use Rattle.masks.specs.Bits.{bit, bit-some, Within, within-le}
+use Rattle.masks.specs.Words.{clear, clear-within, clear-same, clear-other}
 use Rattle.masks.specs.Sets.{count}
 use Rattle.consistency.specs.Problem.{Problem, allFields, in-allFields, allFields-bound}
-use Rattle.network.specs.Tables.{problemOf}
-use Rattle.closing.specs.Shrunk.{or-within, zero-or, shrunk-still, shrunk-fewer}
+use Rattle.closing.specs.Shrunk.{zero-or, shrunk-still, shrunk-fewer}
 use Rattle.closing.specs.Frame.{Live, passes-same}
 use Rattle.visiting.specs.Visit.{Visited}
 use Rattle.engines.specs.Engine.{IsOrder, Hoods, Kept, kept-start, kept-then, kept-wiped, Wiped, visit-kept, visit-wiped, FieldPasses}
-use Rattle.engines.specs.EngineAsks.{Lent}
-
--- ---- what is put back
-
--- the mask of the first n fields
-abbrev pub allOf : ℕ → ℕ
-allOf n = maskOf n (λ g. true)
-
--- r holds the queue and, of each changed field, the other fields of its neighbourhood
-pub record Back (n : ℕ) (hood : List ℕ) (queue changed r : ℕ) : Type 0 where
-  pub keeps : Within queue r
-  pub small : Within r (allOf n)
-  pub none : changed ≡ 0 → r ≡ queue
-  pub adds : (h g : ℕ) → bit changed h ≡ true → bit (getD hood h 0) g ≡ true → (g ≡ h → ⊥) → bit r g ≡ true
-
-pub record BackAsks (n : ℕ) (hood : List ℕ) (queue changed : ℕ) : Type 0 where
-  pub few : n ≤ mostFields
-  pub queued : Within queue (allOf n)
-  pub hoods : (h : ℕ) → bit changed h ≡ true → (h < mostFields) × Within (getD hood h 0) (allOf n)
-
--- the changed fields of `left` are still to come
-pub record Backing (n : ℕ) (hood : List ℕ) (queue changed left r : ℕ) : Type 0 where
-  pub lefts : Within left changed
-  pub keeps : Within queue r
-  pub small : Within r (allOf n)
-  pub none : changed ≡ 0 → r ≡ queue
-  pub adds : (h g : ℕ) → bit changed h ≡ true → bit left h ≡ false → bit (getD hood h 0) g ≡ true → (g ≡ h → ⊥) → bit r g ≡ true
-
-module _ (n : ℕ) (hood : List ℕ) (queue changed : ℕ) (a : BackAsks n hood queue changed) where
-  pub back-all : (changed ≡ 0 → ⊥) → Back n hood queue changed (allOf n)
-  back-all d = record { keeps = a .queued; small = λ v e. e; none = λ z. absurd (d z); adds = λ h g c e _. a .hoods h c .1 g e }
-
-  pub backing-start : Backing n hood queue changed changed queue
-  backing-start = record { lefts = λ v e. e; keeps = λ v e. e; small = a .queued; none = λ z. refl; adds = λ h g c e. absurd (never c e) }
-
-  pub backing-end : (left r : ℕ) → left ≡ 0 → Backing n hood queue changed left r → Back n hood queue changed r
-  backing-end left r z p = record {
-    keeps = p .keeps;
-    small = p .small;
-    none = p .none;
-    adds = λ h g c. p .adds h g c (ap (λ (x : ℕ). bit x h) z ∙ bit-of-zero h);
-  }
-
-  pub backing-turn : (left r f : ℕ) → bit left f ≡ true → Backing n hood queue changed left r
-      → Backing n hood queue changed (clear left f) (bitOr r (clear (getD hood f 0) f))
-  backing-turn left r f b p = record {
-    lefts = λ v e. p .lefts v (clear-within left f v e);
-    keeps = λ v e. bit-or r (clear (getD hood f 0) f) v ∙ or-l _ _ (p .keeps v e);
-    small = or-within r (clear (getD hood f 0) f) (allOf n) (p .small)
-        (λ v e. a .hoods f (p .lefts f b) .1 v (clear-within (getD hood f 0) f v e));
-    none = λ z. absurd (never (p .lefts f b) (ap (λ (x : ℕ). bit x f) z ∙ bit-of-zero f));
-    adds = λ h g c e y d. bit-or r (clear (getD hood f 0) f) g ∙ ⊎-elim
-        (λ q. let z : h ≡ f = clear-gone left f h q e in
-        or-r (bit r g) _ (clear-other (getD hood f 0) f g (λ x. d (x ∙ sym z)) ∙ ap (λ (i : ℕ). bit (getD hood i 0) g) (sym z) ∙ y))
-        (λ q. or-l _ _ (p .adds h g c q y d)) (bool-cases (bit left h));
-  }
-
--- masks of the problem's fields will do
-pub back-asks : (n : ℕ) (joined forward turned order hood : List ℕ) → n ≤ mostFields → Lent n joined forward turned order hood
-    → (queue changed : ℕ)
-    → Within queue (allFields (problemOf n joined forward turned)) → Within changed (allFields (problemOf n joined forward turned))
-    → BackAsks n hood queue changed
-unfolding allFields problemOf
-back-asks n joined forward turned order hood few l queue changed q c = record {
-  few = few;
-  queued = q;
-  hoods = λ h e. let i = maskOf-bound n (λ g. true) h (c h e) in (omega arith, l .hoods .fields h i);
-}
+use Rattle.engines.specs.PutBack.{putBack, BackAsks, back-asks, back-none, back-keeps, back-small, back-adds}
 
 -- ---- one round: the fields on the queue are visited in the lent order
 
@@ -160,32 +91,42 @@ module _ (P : Problem) (order hood : List ℕ) where
           none = λ _. kept-wiped P (w .kept) (visit-wiped P hood f l S wiped changed R v e);
         }
 
-        pub waiting-turn : wiped ≡ false → Hoods P hood → (r : ℕ) → Back (P .fields) hood (clear queue (getD order p 0)) changed r
+        pub waiting-turn : wiped ≡ false → P .fields ≤ mostFields → Hoods P hood → (reach r : ℕ)
+            → r ≡ putBack (P .fields) reach hood (clear queue (getD order p 0)) changed
             → Waiting (p + 1) r (bitOr touched changed) R
         unfolding allFields
-        waiting-turn e hs r b =
+        waiting-turn e few hs reach r b =
             record {
               kept = kept-then P (w .kept) (visit-kept P hood f l S wiped changed R v e);
-              small = b .small;
+              small = rw b (back-small (P .fields) reach hood (clear queue f) changed asks);
               gone = gone;
               off = λ o g i n. ⊎-elim (λ q. rw q (own (rw q at n))) (λ q. other g i n q (w .off o g i (was-off g n q))) (eq-cases g f);
             }
           where
+            asks : BackAsks (P .fields) hood (clear queue f) changed
+            asks = back-asks P hood few hs (clear queue f) changed (λ g c. w .small g (clear-within queue f g c)) (v .marks e)
+
+            keeps : Within (clear queue f) r
+            keeps = rw b (back-keeps (P .fields) reach hood (clear queue f) changed asks)
+
+            adds : (h g : ℕ) → bit changed h ≡ true → bit (getD hood h 0) g ≡ true → (g ≡ h → ⊥) → bit r g ≡ true
+            adds = rw b (back-adds (P .fields) reach hood (clear queue f) changed asks)
+
             gone : bitOr touched changed ≡ 0 → (q : ℕ) → q < p + 1 → bit r (getD order q 0) ≡ false
             gone z q i =
                 let y = zero-or touched changed z in
-                ap (λ (x : ℕ). bit x (getD order q 0)) (b .none (y .1))
+                ap (λ (x : ℕ). bit x (getD order q 0)) (b ∙ back-none (P .fields) reach hood (clear queue f) changed (y .1))
                 ∙ ⊎-elim (λ j. rw j (clear-same queue f))
                 (λ j. not-so _ (λ c. never (clear-within queue f (getD order q 0) c) (w .gone (y .0) q j)))
                 (eq-or-lt-of-le (let k : q ≤ p = omega arith in k))
 
             was-off : (g : ℕ) → bit r g ≡ false → (g ≡ f → ⊥) → bit queue g ≡ false
-            was-off g n d = not-so (bit queue g) (λ c. never (b .keeps g (clear-other queue f g d ∙ c)) n)
+            was-off g n d = not-so (bit queue g) (λ c. never (keeps g (clear-other queue f g d ∙ c)) n)
 
             -- a field i of g's neighbourhood, other than g, did not change where g is off the queue
             unchanged : (g : ℕ) → g < P .fields → bit r g ≡ false → (i : ℕ) → bit (getD hood g 0) i ≡ true → bit changed i ≡ true
                 → (g ≡ i → ⊥) → ⊥
-            unchanged g k n i y c d = never (b .adds i g c (hs .back g i k (allFields-bound P i (v .marks e i c)) y) d) n
+            unchanged g k n i y c d = never (adds i g c (hs .back g i k (allFields-bound P i (v .marks e i c)) y) d) n
 
             own : bit r f ≡ false → FieldPasses P hood R f
             own n = v .passed e (λ i c y. ⊎-elim (λ q. q) (λ q. absurd (unchanged f l n i y c (λ z. q (sym z)))) (eq-cases i f))

@@ -1,4 +1,5 @@
 // Engine 3, the queue method: only the fields on a queue are visited, and a removal puts fields back.
+ghost use mathlib.Core.Path.{_≡_};
 ghost use Prim.Native.Nat.{_≤_};
 ghost use lib.ListN.{length};
 ghost use Rattle.limits.specs.Limits.{memoryWords};
@@ -9,7 +10,8 @@ ghost use Rattle.closing.specs.Asks.{LiveAsks};
 ghost use Rattle.visiting.specs.Store.{Store};
 ghost use Rattle.engines.specs.Engine.{Engine};
 ghost use Rattle.engines.specs.EngineAsks.{Lent, RunAsks};
-ghost use Rattle.engines.specs.Queue.{Back, BackAsks, Rounded};
+ghost use Rattle.engines.specs.PutBack.{BackAsks, putBack};
+ghost use Rattle.engines.specs.Queue.{Rounded};
 use super::sac::begin;
 use super::sac::field_at;
 use limits::FIELDS;
@@ -31,12 +33,13 @@ pub struct Waiting {
 // changed field's neighbourhood.
 fn put_back(queue: u32, changed: u32, net: Network) -> u32
     requires { ⌜ BackAsks (net .fields) (net .hood) queue changed ⌝ }
-    ensures { λ r. ⌜ Back (net .fields) (net .hood) queue changed r ⌝ }
+    ensures { λ r. ⌜ r ≡ putBack (net .fields) (net .reach) (net .hood) queue changed ⌝ }
 {
-    if changed != 0 {
-        if WHOLE_REACH <= net.reach {
-            return all_fields(net.fields);
-        }
+    if changed == 0 {
+        return queue;
+    }
+    if WHOLE_REACH <= net.reach {
+        return all_fields(net.fields);
     }
     let mut r = queue;
     let mut left = changed;

@@ -10,7 +10,7 @@ use super::sac::sac;
 use limits::FIELDS;
 use network::build::Network;
 
-// The engines by 01's numbers. Any other is taken for the first; the calls refuse it before.
+// The engines by 01's numbers: 1 is SAC-1. Any other is taken for the first; the calls refuse it before.
 const SAC_2: u32 = 2;
 
 const QUEUE: u32 = 3;
@@ -29,9 +29,9 @@ pub fn run<'a>(
     requires { ⌜ memoryWords ≤ length (now memory) ⌝ }
     ensures { λ r. ⌜ Engine (problemIn net (now (forward .entry)) (now (turned .entry))) (net .hood) (now (m .entry)) r (now (m .exit)) ⌝ }
 {
-    if engine == QUEUE {
-        return queued(m, memory, order, net, forward, turned);
+    match engine {
+        SAC_2 => sac(m, memory, true, order, net, forward, turned),
+        QUEUE => queued(m, memory, order, net, forward, turned),
+        _ => sac(m, memory, false, order, net, forward, turned),
     }
-    let remembers = engine == SAC_2;
-    sac(m, memory, remembers, order, net, forward, turned)
 }

@@ -8,7 +8,8 @@ use Rattle.masks.specs.Pick.{pick}
 use Rattle.limits.specs.Limits.{mostFields, mostSettings, largestSetting, wholeReach, mostRules, lastKind}
 use Rattle.limits.specs.Refusals.{ENDS-INSIDE, OUT-OF-RANGE, OUT-OF-ORDER}
 use Rattle.grammar.specs.declared.grammar.Expected.{Expected}
-use Rattle.grammar.specs.declared.grammar.Expected.the-variants.{Fields, Count, Setting, Reach, Rules, First, Second, Kind, Mask, Amount}
+use Rattle.grammar.specs.declared.grammar.Expected.the-variants.{Fields, Count, Setting, Reach, Rules, First, Second, Kind, Mask}
+use Rattle.grammar.specs.declared.grammar.Expected.the-variants.{Amount}
 use Rattle.grammar.specs.declared.grammar.State.{State}
 use Rattle.grammar.specs.declared.grammar.State.the-variants.{Wants, Complete, OutOfRange, OutOfOrder}
 
@@ -52,8 +53,8 @@ key i j = i * mostFields + j
 abbrev pub rising : ℕ → ℕ → ℕ → Bool
 rising i j floor = ltb i j && leb floor (key i j)
 
--- What the number x leads to, with n fields, and the counts ds of the fields so far, with x where it is one. `more` and `rules` count what is
--- still to come after x of its field or rule and of the rules; `floor` is the least that may come, one more than what came last.
+-- What the number x leads to, with n fields, and the counts ds of the fields so far, with x where it is one. `more` and `rules` count
+-- what is still to come after x of its field or rule and of the rules; `floor` is the least that may come, one more than what came last.
 unfoldable pub advance : (n : ℕ) → Expected → (ds : List ℕ) → (x : ℕ) → State × List ℕ
 advance n Fields ds x = (ranged (upTo mostFields x) (Wants x (Count 0)), ds)
 advance n (Count f) ds x = (ranged (upTo mostSettings x) (Wants n (Setting f (x - 1) 0)), set ds f x)

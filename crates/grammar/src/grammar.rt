@@ -4,7 +4,8 @@ ghost use Prim.Native.Nat.{_+_, _-_, _^_, _<_};
 ghost use lib.Dec.{ltb, leb};
 ghost use lib.ListN.{getD, set};
 ghost use Rattle.limits.specs.Limits.{largestSetting, lastKind};
-ghost use Rattle.grammar.specs.Grammar.{upTo, ranged, ordered, afterField, afterSetting, afterRule, afterMask, afterKind, key, rising, advance, atEnd};
+ghost use Rattle.grammar.specs.Grammar.{upTo, ranged, ordered, afterField, afterSetting, afterRule, afterMask, afterKind};
+ghost use Rattle.grammar.specs.Grammar.{key, rising, advance, atEnd};
 use limits::LARGEST_SETTING;
 use limits::LAST_KIND;
 use limits::MOST_FIELDS;
@@ -15,7 +16,8 @@ use limits::refusals::ENDS_INSIDE;
 use limits::refusals::OUT_OF_ORDER;
 use limits::refusals::OUT_OF_RANGE;
 
-// What the next number is. `more` and `rules` count what is still to come after it of its field or rule and of the rules; `floor` is the least that may come: one more than the setting before, or than the key of the rule before.
+// What the next number is. `more` and `rules` count what is still to come after it of its field or rule and of the rules; `floor` is the
+// least that may come: one more than the setting before, or than the key of the rule before.
 pub enum Expected {
     Fields,
     // field
@@ -213,7 +215,8 @@ fn rules_if(test: bool, n: u32, rules: u32, floor: u64) -> State
 
 // What the number x leads to in a sheet of n fields, where it is what is expected; `counts` holds the counts of the fields so far.
 pub fn advance(n: u32, expected: Expected, counts: &mut [u32], x: u32) -> State
-    ensures { λ r. ⌜ (r ≡ advance n expected (now (counts .entry)) x .0) × (now (counts .exit) ≡ advance n expected (now (counts .entry)) x .1) ⌝ }
+    ensures { λ r. ⌜ (r ≡ advance n expected (now (counts .entry)) x .0)
+        × (now (counts .exit) ≡ advance n expected (now (counts .entry)) x .1) ⌝ }
 {
     match expected {
         Expected::Fields => wants_if(up_to(MOST_FIELDS, x), x, Expected::Count(0)),

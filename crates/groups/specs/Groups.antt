@@ -20,13 +20,14 @@ abbrev pub lastGroup : Bool → ℕ → ℕ → Number
 lastGroup short x next = pick short IllFormed (Value x next)
 
 -- The number of which groups of the weights below w have come to v, with `left` groups allowed still, l being the bytes from place `at` on.
+-- A list in the logic may hold what is no byte; that is no group. A slice of bytes has none.
 unfoldable pub groups : (left w v at : ℕ) → List ℕ → Number
 groups zero w v at l = IllFormed
 groups (suc left) w v at [] = Ended
 groups (suc left) w v at (b ∷ l) =
     pick (ltb b 128)
     (lastGroup (ltb 1 w && eqb b 0) (v + w * b) (at + 1))
-    (groups left (w * 128) (v + w * (b - 128)) (at + 1) l)
+    (pick (ltb b 256) (groups left (w * 128) (v + w * (b - 128)) (at + 1) l) IllFormed)
 
 -- The number at a place of the bytes s.
 unfoldable pub numberAt : List ℕ → ℕ → Number
@@ -58,11 +59,11 @@ module _ (s : List ℕ) (w v i : ℕ) where
   groups-last zero p h b = absurd (omega arith)
   groups-last (suc left) p h b = rw (drop-cons s i 0 h, lt-ltb (getD s i 0) 128 b)
 
-  pub groups-more : (left : ℕ) → 0 < left → i < length s → 128 ≤ getD s i 0
+  pub groups-more : (left : ℕ) → 0 < left → i < length s → 128 ≤ getD s i 0 → getD s i 0 < 256
       → groups left w v i (drop i s) ≡ groups (left - 1) (w * 128) (v + w * (getD s i 0 - 128)) (i + 1) (drop (i + 1) s)
   unfolding groups pick
-  groups-more zero p h b = absurd (omega arith)
-  groups-more (suc left) p h b = rw (drop-cons s i 0 h, le-ltb (getD s i 0) 128 b, sub-one, add-one i)
+  groups-more zero p h b c = absurd (omega arith)
+  groups-more (suc left) p h b c = rw (drop-cons s i 0 h, le-ltb (getD s i 0) 128 b, lt-ltb (getD s i 0) 256 c, sub-one, add-one i)
 
 -- ---- the place after a number
 
@@ -72,19 +73,27 @@ unfolding pick
 last-number true y m x next e = let z : _≡_ {A = ℕ} 0 1 = cc in absurd (omega arith)
 last-number false y m x next e = (refl, cc, cc)
 
+-- a group that continues is a byte
+byte-number : (t : Bool) (m : Number) (x next : ℕ) → pick t m IllFormed ≡ Value x next → (t ≡ true) × (m ≡ Value x next)
+unfolding pick
+byte-number true m x next e = (refl, e)
+byte-number false m x next e = let z : _≡_ {A = ℕ} 0 1 = cc in absurd (omega arith)
+
 -- a number read in its groups: the first is the last, or one of those before
 pub groups-number : (left w v at b x next : ℕ) (l : List ℕ) → groups (suc left) w v at (b ∷ l) ≡ Value x next
     → ((b < 128) × ((ltb 1 w && eqb b 0) ≡ false) × (x ≡ v + w * b) × (next ≡ at + 1))
-    ⊎ ((128 ≤ b) × (groups left (w * 128) (v + w * (b - 128)) (at + 1) l ≡ Value x next))
+    ⊎ ((128 ≤ b) × (b < 256) × (groups left (w * 128) (v + w * (b - 128)) (at + 1) l ≡ Value x next))
 unfolding groups
 groups-number left w v at b x next l e = go (ltb b 128) refl
   where
     go : (t : Bool) → ltb b 128 ≡ t → ((b < 128) × ((ltb 1 w && eqb b 0) ≡ false) × (x ≡ v + w * b) × (next ≡ at + 1))
-        ⊎ ((128 ≤ b) × (groups left (w * 128) (v + w * (b - 128)) (at + 1) l ≡ Value x next))
+        ⊎ ((128 ≤ b) × (b < 256) × (groups left (w * 128) (v + w * (b - 128)) (at + 1) l ≡ Value x next))
     go true q =
         let r = last-number (ltb 1 w && eqb b 0) (v + w * b) (at + 1) x next (sym (pick-true (ltb b 128) _ _ q) ∙ e) in
         inl (ltb-true b 128 q, r .0, r .1, r .2)
-    go false q = inr (ltb-false b 128 q, sym (pick-false (ltb b 128) _ _ q) ∙ e)
+    go false q =
+        let r = byte-number (ltb b 256) _ x next (sym (pick-false (ltb b 128) _ _ q) ∙ e) in
+        inr (ltb-false b 128 q, ltb-true b 256 (r .0), r .1)
 
 -- no number where none is left, and none at the end
 pub groups-nothing : (w v at x next : ℕ) (l : List ℕ) → groups 0 w v at l ≡ Value x next → ⊥
@@ -101,7 +110,7 @@ groups-next zero w v at x next l e = absurd (groups-nothing w v at x next l e)
 groups-next (suc left) w v at x next [] e = absurd (groups-empty (suc left) w v at x next e)
 groups-next (suc left) w v at x next (b ∷ l) e =
     ⊎-elim (λ r. let q = r .3 in omega arith)
-    (λ r. let q = groups-next left (w * 128) (v + w * (b - 128)) (at + 1) x next l (r .1) in omega arith)
+    (λ r. let q = groups-next left (w * 128) (v + w * (b - 128)) (at + 1) x next l (r .2) in omega arith)
     (groups-number left w v at b x next l e)
 
 pub number-next : (s : List ℕ) (at x next : ℕ) → at < length s → numberAt s at ≡ Value x next → (at < next) × (next ≤ length s)

@@ -10,7 +10,9 @@ use lib.Seq.{sets, sets-eq, length-sets}
 
 sets-append : (out : List ℕ) (i : ℕ) (xs ys : List ℕ) → sets out i (xs ++ ys) ≡ sets (sets out i xs) (i + length xs) ys
 sets-append out i [] ys = ap (λ (k : ℕ). sets out k ys) (sym (add-zero i))
-sets-append out i (x ∷ xs) ys = sets-append (set out i x) (suc i) xs ys ∙ ap (λ (k : ℕ). sets (sets (set out i x) (suc i) xs) k ys) (suc-add i (length xs) ∙ sym (add-suc i (length xs)))
+sets-append out i (x ∷ xs) ys =
+    sets-append (set out i x) (suc i) xs ys
+    ∙ ap (λ (k : ℕ). sets (sets (set out i x) (suc i) xs) k ys) (suc-add i (length xs) ∙ sym (add-suc i (length xs)))
 
 -- Over `out₀`, from place `from`, go the values `all`: `out` holds those before place i, and `rest` are to come.
 pub record Storing (out : List ℕ) (i : ℕ) (rest out₀ : List ℕ) (from : ℕ) (all : List ℕ) : Type 0 where
@@ -37,7 +39,8 @@ module _ {out : List ℕ} {i : ℕ} {rest out₀ : List ℕ} {from : ℕ} {all j
     size = ap length q ∙ length-sets out i xs ∙ g .size;
   }
 
-pub storing-done : {out : List ℕ} {i : ℕ} {out₀ : List ℕ} {from : ℕ} {all js : List ℕ} → js ≡ [] → Storing out i js out₀ from all → out ≡ sets out₀ from all
+pub storing-done : {out : List ℕ} {i : ℕ} {out₀ : List ℕ} {from : ℕ} {all js : List ℕ} → js ≡ [] → Storing out i js out₀ from all
+    → out ≡ sets out₀ from all
 storing-done {out} {i} e g = sym (ap (λ (l : List ℕ). sets out i l) e) ∙ g .stored
 
 -- at most as many values as places: they are in front

@@ -1,4 +1,5 @@
-// One number in bytes: groups of seven bits, lowest first, the top bit set on every byte but the last; at most four groups, and the fewest possible.
+// One number in bytes: groups of seven bits, lowest first, the top bit set on every byte but the last; at most four groups, and the
+// fewest possible.
 ghost use mathlib.Core.Path.{_≡_};
 ghost use Prim.Native.Nat.{_+_, _<_, _≤_};
 ghost use lib.Dec.{eqb};

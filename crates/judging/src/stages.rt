@@ -1,8 +1,8 @@
-// The causes of a refusal by what is judged: the session, the engine, the setting that a call names, the order, the change of the decisions. Each
-// function gives the number of the first cause that applies, 0 where none does.
+// The causes of a refusal by what is judged: the session, the engine, the setting that a call names, the order, the change of the
+// decisions. Each function gives the number of the first cause that applies, 0 where none does.
 ghost use mathlib.Core.Path.{_≡_};
-ghost use Rattle.ledger.specs.Ledger.{changeOf, addedAgain, withdrawnUnheld, first, formCauses, engineCauses, settingCauses, orderCauses, changeCauses};
-ghost use Rattle.ledger.specs.Ledger.{offSheet};
+ghost use Rattle.ledger.specs.Ledger.{changeOf, addedAgain, withdrawnUnheld, first, formCauses, engineCauses, settingCauses, orderCauses};
+ghost use Rattle.ledger.specs.Ledger.{changeCauses, offSheet};
 ghost use Rattle.session.specs.View.{decisionsOf, view};
 use super::order::is_order;
 use accepted::outline::Outline;

@@ -1,5 +1,5 @@
--- The order of the causes: ledgers and calls to which two causes apply, and the number given, computed. The ledgers are forged; no sequence of
--- calls makes some of them. Assumes nothing.
+-- The order of the causes: ledgers and calls to which two causes apply, and the number given, computed. The ledgers are forged; no
+-- sequence of calls makes some of them. Assumes nothing.
 use mathlib.Core.Path.{_≡_, refl}
 use mathlib.Core.List.{List, [], _∷_}
 use Prim.Native.Nat.{ℕ, zero, suc}
@@ -24,12 +24,12 @@ use Rattle.accepted.specs.Outline.{outlineOf}
 use Rattle.accepted.specs.Cases.{D}
 use Rattle.network.specs.SheetProblem.{runs, pairs, sheetProblem}
 use Rattle.ledger.specs.declared.Event.{Event}
-use Rattle.ledger.specs.declared.Call.{Call}
 use Rattle.ledger.specs.declared.Call.the-variants.{Open, Show, Back}
 use Rattle.ledger.specs.Occurrences.{occurrences}
-use Rattle.ledger.specs.Ledger.{choice, strike, CHOOSE, STRIKE, WITHDRAW-CHOICE, WITHDRAW-STRIKE, changeBy, decides, Ledger, sameDecision, inForce, without}
-use Rattle.ledger.specs.Ledger.{opened, backed, step, otherChosen, starts, startSet, offersOf, wiped, Given, spaceShort, onSheet, allOnSheet, reversible, malformed}
-use Rattle.ledger.specs.Ledger.{noEngine, isOrder, first, judged, causes, number}
+use Rattle.ledger.specs.Ledger.{choice, strike, CHOOSE, STRIKE, WITHDRAW-CHOICE, WITHDRAW-STRIKE, changeBy, decides, Ledger}
+use Rattle.ledger.specs.Ledger.{sameDecision, inForce, without, opened, backed, step, otherChosen, starts, startSet, offersOf, wiped}
+use Rattle.ledger.specs.Ledger.{Given, spaceShort, onSheet, allOnSheet, reversible, malformed, noEngine, isOrder, first, judged}
+use Rattle.ledger.specs.Ledger.{causes, number}
 
 -- sheet D with an engine, an order, and spaces just long enough
 abbrev givenD : ℕ → List ℕ → Given
@@ -44,7 +44,14 @@ noSheet words = record { sheet = []; engine = 1; order = rising; offers = words;
 
 -- a sheet of one field at reach 1
 abbrev narrow : ℕ → List ℕ → Given
-narrow engine order = record { sheet = 1 ∷ 1 ∷ 5 ∷ 1 ∷ 0 ∷ []; engine = engine; order = order; offers = offersWords; rows = rowsWords; memory = memoryWords }
+narrow engine order = record {
+  sheet = 1 ∷ 1 ∷ 5 ∷ 1 ∷ 0 ∷ [];
+  engine = engine;
+  order = order;
+  offers = offersWords;
+  rows = rowsWords;
+  memory = memoryWords;
+}
 
 -- an event of field 0, position 0
 abbrev happened : ℕ → Event
@@ -77,21 +84,51 @@ pub order-of-causes :
     -- 6 before 1, and 1 before 15
     (number (noSheet 23) Show off ≡ 6) × (number (noSheet 24) Show off ≡ 1)
     -- 15 before 7; open skips it
-    × (number (givenD 0 rising) Show off ≡ 15) × (number (givenD 0 rising) Show unheld ≡ 15) × (number (givenD 0 rising) Back (strange 0) ≡ 15)
-    × (number (givenD 0 rising) Back (strange 5) ≡ 15) × (number (givenD 0 rising) Open off ≡ 7)
+    × (number (givenD 0 rising) Show off ≡ 15) × (number (givenD 0 rising) Show unheld ≡ 15)
+    × (number (givenD 0 rising) Back (strange 0) ≡ 15) × (number (givenD 0 rising) Back (strange 5) ≡ 15)
+    × (number (givenD 0 rising) Open off ≡ 7)
     -- 7, for the engine and for the decision, before 8 and 9, 8 before 9
-    × (number (narrow 0 []) Show opened ≡ 7) × (number (narrow 2 []) (decides CHOOSE 1 0) opened ≡ 7) × (number (narrow 2 []) (decides CHOOSE 0 1) opened ≡ 7)
+    × (number (narrow 0 []) Show opened ≡ 7)
+    × (number (narrow 2 []) (decides CHOOSE 1 0) opened ≡ 7) × (number (narrow 2 []) (decides CHOOSE 0 1) opened ≡ 7)
     × (number (narrow 2 []) (decides CHOOSE 0 0) opened ≡ 8) × (number (narrow 3 []) (decides CHOOSE 0 0) opened ≡ 9)
     -- a kind that is none of the four
     × (number (narrow 2 []) (decides 0 0 0) opened ≡ 7) × (number (narrow 2 []) (decides 5 0 0) opened ≡ 7)
     -- 9 before 10, 11 and 13
-    × (number (givenD 1 (0 ∷ 0 ∷ [])) (decides STRIKE 0 0) struck ≡ 9) × (number (givenD 1 (0 ∷ [])) (decides WITHDRAW-CHOICE 0 0) opened ≡ 9)
-    × (number (givenD 1 (1 ∷ 2 ∷ [])) Back opened ≡ 9)
+    × (number (givenD 1 (0 ∷ 0 ∷ [])) (decides STRIKE 0 0) struck ≡ 9)
+    × (number (givenD 1 (0 ∷ [])) (decides WITHDRAW-CHOICE 0 0) opened ≡ 9) × (number (givenD 1 (1 ∷ 2 ∷ [])) Back opened ≡ 9)
     -- 10 and 11 before 12, and 13
     × (number (givenD 1 rising) (decides STRIKE 0 0) struck ≡ 10) × (number (givenD 1 rising) (decides WITHDRAW-CHOICE 0 0) full ≡ 11)
     × (number (givenD 1 rising) Back opened ≡ 13)
     -- 12 before 14; back is not refused by 12
     × (number (givenD 1 rising) (decides CHOOSE 0 0) full ≡ 12) × (number (givenD 1 rising) (decides CHOOSE 0 0) opened ≡ 14)
     × (number (givenD 1 rising) Back full ≡ 0)
-unfolding pastOf wipedOut offers passes passesOver noneEmpty neighbourhood fieldsWithin widen allFields closing supported supportedBy partner largest sweeps sweep someEmpty empty cut same count only countBits countIn someBit someIn keepBits keepIn maskOf bit has pad someBelow allBelow tabulate occurrences number first causes judged malformed noEngine isOrder spaceShort reversible allOnSheet onSheet inForce sameDecision without changeBy backed step otherChosen starts startSet offersOf wiped outlineOf refusalFrom numbers items numberAt groups pick advance fieldStart ruleStart sheetProblem runs pairs
-order-of-causes = (refl, refl, refl, refl, refl, refl, refl, refl, refl, refl, refl, refl, refl, refl, refl, refl, refl, refl, refl, refl, refl, refl, refl)
+unfolding pastOf wipedOut offers passes passesOver noneEmpty neighbourhood fieldsWithin widen allFields closing supported supportedBy
+    partner largest sweeps sweep someEmpty empty cut same count only countBits countIn someBit someIn keepBits keepIn maskOf bit has pad
+    someBelow allBelow tabulate occurrences number first causes judged malformed noEngine isOrder spaceShort reversible allOnSheet onSheet
+    inForce sameDecision without changeBy backed step otherChosen starts startSet offersOf wiped outlineOf refusalFrom numbers items
+    numberAt groups pick advance fieldStart ruleStart sheetProblem runs pairs
+order-of-causes = (
+  refl,
+  refl,
+  refl,
+  refl,
+  refl,
+  refl,
+  refl,
+  refl,
+  refl,
+  refl,
+  refl,
+  refl,
+  refl,
+  refl,
+  refl,
+  refl,
+  refl,
+  refl,
+  refl,
+  refl,
+  refl,
+  refl,
+  refl,
+)

@@ -1,12 +1,12 @@
 -- The causes stage by stage: which stage decides a number, and what holds where no cause applies. Assumes nothing.
 use mathlib.Core.Path.{_≡_, refl, sym, ap, _∙_}
-use mathlib.Core.Bool.{Bool, true, false, not, _&&_, _||_}
-use mathlib.Core.List.{List, [], _∷_, _++_}
+use mathlib.Core.Bool.{Bool, true, false, not, _||_}
+use mathlib.Core.List.{List, _++_}
 use Prim.Native.Nat.{ℕ, _≤_}
 use native.Mathlib.Omega.{arith}
-use lib.Dec.{eqb, ltb}
+use lib.Dec.{ltb}
 use lib.ListN.{length}
-use borrow.Author.Tests.{eqb-true, eqb-false, eq-eqb, ne-eqb, ltb-false}
+use borrow.Author.Tests.{eqb-true, eq-eqb, ne-eqb, ltb-false}
 use Rattle.limits.specs.Limits.{mostEvents}
 use Rattle.limits.specs.Refusals.{TOO-SHORT, MALFORMED}
 use Rattle.masks.specs.Tests.{never}
@@ -15,9 +15,11 @@ use Rattle.accepted.specs.declared.outline.Outline.{Outline}
 use Rattle.accepted.specs.Outline.{outlineOf}
 use Rattle.ledger.specs.declared.Call.{Call}
 use Rattle.ledger.specs.declared.Call.the-variants.{Open, Show, Decide, Back, CoilOn}
-use Rattle.ledger.specs.Ledger.{Ledger, Given, Cause, because, first, step, wiped, spaceShort, spaceCauses, sheetCauses, allOnSheet, reversible, malformed}
-use Rattle.ledger.specs.Ledger.{sessionCauses, engineCauses, placeCauses, orderCauses, stepCauses, offersCauses, judged, causes, number}
-use Rattle.ledger.specs.Causes.{None, Avoids, Numbered, avoids-++, first-end, first-applies, first-next, first-none, first-here, first-there, first-both}
+use Rattle.ledger.specs.Ledger.{Ledger, Given, Cause, first, step, spaceShort, spaceCauses, sheetCauses, allOnSheet}
+use Rattle.ledger.specs.Ledger.{reversible, malformed, sessionCauses, engineCauses, placeCauses, orderCauses, stepCauses}
+use Rattle.ledger.specs.Ledger.{offersCauses, judged, causes, number}
+use Rattle.ledger.specs.Causes.{None, Avoids, Numbered, avoids-++, first-end, first-applies, first-next, first-none, first-here}
+use Rattle.ledger.specs.Causes.{first-there, first-both}
 
 pub or-left : (a b : Bool) → (a || b) ≡ false → a ≡ false
 or-left true b e = e
@@ -33,7 +35,8 @@ not-back false e = sym e
 
 -- ---- the stages that read a call: none of their causes has a number k, where k is none of theirs
 
-pub session-avoids : (k : ℕ) (o : Outline) (c : Call) (l : Ledger) → (malformed o l ≡ true → MALFORMED ≡ k → ⊥) → Avoids k (sessionCauses o c l)
+pub session-avoids : (k : ℕ) (o : Outline) (c : Call) (l : Ledger) → (malformed o l ≡ true → MALFORMED ≡ k → ⊥)
+    → Avoids k (sessionCauses o c l)
 session-avoids k o Open l n = tt
 session-avoids k o Show l n = (n, tt)
 session-avoids k o (Decide e) l n = (n, tt)
@@ -87,13 +90,16 @@ module _ (o : Outline) (c : Call) (engine : ℕ) (order : List ℕ) (l : Ledger)
   order-numbered = (λ _ z. omega arith, (λ _ z. omega arith, tt))
 
   step-numbered : Numbered (stepCauses c l)
-  step-numbered = step-avoids 0 c l (record { not-10 = λ z. omega arith; not-11 = λ z. omega arith; not-12 = λ z. omega arith; not-13 = λ z. omega arith })
+  step-numbered = step-avoids 0 c l
+      (record { not-10 = λ z. omega arith; not-11 = λ z. omega arith; not-12 = λ z. omega arith; not-13 = λ z. omega arith })
 
   pub judged-numbered : Numbered (judged o c engine order l)
   unfolding judged
   judged-numbered =
-      avoids-++ 0 (sessionCauses o c l) (engineCauses engine ++ placed) session-numbered (avoids-++ 0 (engineCauses engine) placed engine-numbered
-      (avoids-++ 0 (placeCauses o c) late place-numbered (avoids-++ 0 (orderCauses o engine order) (stepCauses c l) order-numbered step-numbered)))
+      avoids-++ 0 (sessionCauses o c l) (engineCauses engine ++ placed) session-numbered
+      (avoids-++ 0 (engineCauses engine) placed engine-numbered
+      (avoids-++ 0 (placeCauses o c) late place-numbered
+      (avoids-++ 0 (orderCauses o engine order) (stepCauses c l) order-numbered step-numbered)))
 
   -- Each stage decides where those before it have no cause that applies.
   pub judged-session : (k : ℕ) → (k ≡ 0 → ⊥) → k ≡ first (sessionCauses o c l) → k ≡ found

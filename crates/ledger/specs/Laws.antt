@@ -20,9 +20,10 @@ use Rattle.network.specs.SheetProblem.{sheetProblem}
 use Rattle.ledger.specs.declared.Event.{Event}
 use Rattle.ledger.specs.declared.Call.{Call}
 use Rattle.ledger.specs.declared.Call.the-variants.{Open, Show, Decide, Back, CoilOn}
-use Rattle.ledger.specs.Ledger.{Decision, choice, strike, Change, adds, withdraws, neither, changeOf, Ledger, sameDecision, inForce, with, without}
-use Rattle.ledger.specs.Ledger.{applied, reverted, backed, step, settings, otherChosen, starts, startSet, offersOf, wiped, Given, Cause, onSheet, allOnSheet, revertible}
-use Rattle.ledger.specs.Ledger.{reversible, malformed, sessionCauses, addedAgain, withdrawnUnheld, stepCauses, judged, causes, number, after}
+use Rattle.ledger.specs.Ledger.{Decision, choice, strike, Change, adds, withdraws, neither, changeOf, Ledger, sameDecision, inForce}
+use Rattle.ledger.specs.Ledger.{with, without, applied, reverted, backed, step, settings, otherChosen, starts, startSet, offersOf}
+use Rattle.ledger.specs.Ledger.{wiped, Given, onSheet, allOnSheet, revertible, reversible, malformed, sessionCauses}
+use Rattle.ledger.specs.Ledger.{addedAgain, withdrawnUnheld, stepCauses, judged, causes, number, after}
 
 -- ---- the same decision
 
@@ -44,13 +45,16 @@ pub inForce-with : (d : Decision) (ds : List Decision) (e : Decision) → inForc
 unfolding inForce
 inForce-with d ds e = refl
 
-pub inForce-without : (d : Decision) (ds : List Decision) (e : Decision) → inForce (without d ds) e ≡ (inForce ds e && not (sameDecision d e))
+pub inForce-without : (d : Decision) (ds : List Decision) (e : Decision)
+    → inForce (without d ds) e ≡ (inForce ds e && not (sameDecision d e))
 unfolding inForce without
 inForce-without d [] e = refl
 inForce-without d (x ∷ ds) e = ⊎-elim
     (λ (q : sameDecision x d ≡ true). rw (pick-true (sameDecision x d) (without d ds) (x ∷ without d ds) q) (inForce-without d ds e
-    ∙ sym (ap (λ (y : Decision). (sameDecision y e || inForce ds e) && not (sameDecision d e)) (decision-at x d q) ∙ gone (sameDecision d e) (inForce ds e))))
-    (λ (q : sameDecision x d ≡ false). rw (pick-false (sameDecision x d) (without d ds) (x ∷ without d ds) q) (ap (λ (b : Bool). sameDecision x e || b) (inForce-without d ds e)
+    ∙ sym (ap (λ (y : Decision). (sameDecision y e || inForce ds e) && not (sameDecision d e)) (decision-at x d q)
+    ∙ gone (sameDecision d e) (inForce ds e))))
+    (λ (q : sameDecision x d ≡ false). rw (pick-false (sameDecision x d) (without d ds) (x ∷ without d ds) q)
+    (ap (λ (b : Bool). sameDecision x e || b) (inForce-without d ds e)
     ∙ stays (sameDecision x e) (inForce ds e) (sameDecision d e) (λ p. sym (ap (sameDecision x) (decision-at d e p)) ∙ q)))
     (bool-cases (sameDecision x d))
   where
@@ -191,7 +195,8 @@ step-causes-same (Decide e) l m s = rw (alike-again _ _ (s .held) (changeOf e), 
 step-causes-same Back l m s = rw (s .past)
 step-causes-same CoilOn l m s = refl
 
-judged-same : (o : Outline) (c : Call) (engine : ℕ) (order : List ℕ) (l m : Ledger) → SameLedger l m → judged o c engine order l ≡ judged o c engine order m
+judged-same : (o : Outline) (c : Call) (engine : ℕ) (order : List ℕ) (l m : Ledger) → SameLedger l m
+    → judged o c engine order l ≡ judged o c engine order m
 unfolding judged
 judged-same o c engine order l m s = rw (session-same o c l m s, step-causes-same c l m s)
 

@@ -1,12 +1,13 @@
--- The plain ledger (01, 'Ledger and calls'): what it holds, the number that it gives a call, its step, and its offers, which it works out from
--- the sheet and what it holds alone. Assumes nothing.
+-- The plain ledger (01, 'Ledger and calls'): what it holds, the number that it gives a call, its step, and its offers, which it works
+-- out from the sheet and what it holds alone. Assumes nothing.
 use mathlib.Core.Bool.{Bool, true, false, not, _&&_, _||_}
 use mathlib.Core.List.{List, [], _∷_, _++_}
 use Prim.Native.Nat.{ℕ}
 use lib.Dec.{eqb, ltb}
 use lib.ListN.{length, getD}
 use Rattle.limits.specs.Limits.{wholeReach, mostEvents, offersWords, rowsWords, memoryWords}
-use Rattle.limits.specs.Refusals.{TOO-SHORT, UNKNOWN, TOO-NARROW, NO-ORDER, ADDED-AGAIN, NOT-IN-FORCE, NO-ROOM, NOTHING-PAST, WIPED-OUT, MALFORMED}
+use Rattle.limits.specs.Refusals.{TOO-SHORT, UNKNOWN, TOO-NARROW, NO-ORDER, ADDED-AGAIN, NOT-IN-FORCE, NO-ROOM, NOTHING-PAST}
+use Rattle.limits.specs.Refusals.{WIPED-OUT, MALFORMED}
 use Rattle.masks.specs.Tests.{allBelow}
 use Rattle.masks.specs.Masks.{keepBits, someBit}
 use Rattle.masks.specs.Sets.{has}
@@ -30,8 +31,8 @@ pub data Decision : Type 0 where
   choice : ℕ → ℕ → Decision
   strike : ℕ → ℕ → Decision
 
--- What an event does to the decisions. An event of none of the four kinds does nothing; no step of the ledger adds one, but a forged session
--- may hold one.
+-- What an event does to the decisions. An event of none of the four kinds does nothing; no step of the ledger adds one, but a forged
+-- session may hold one.
 pub data Change : Type 0 where
   adds : Decision → Change
   withdraws : Decision → Change
@@ -160,7 +161,8 @@ unfoldable pub first : List Cause → ℕ
 first [] = 0
 first (c ∷ cs) = pick (c .applies) (c .number) (first cs)
 
--- what a call is given beside the session: the sheet's bytes, an engine, an order, and how many words the offers list and the work spaces have
+-- what a call is given beside the session: the sheet's bytes, an engine, an order, and how many words the offers list and the work
+-- spaces have
 pub record Given : Type 0 where
   pub sheet : List ℕ
   pub engine : ℕ
@@ -204,7 +206,9 @@ reversible o [] ds = true
 reversible o (e ∷ es) ds = revertible o (changeOf e) ds && reversible o es (reverted (changeOf e) ds)
 
 unfoldable pub malformed : Outline → Ledger → Bool
-malformed o l = not (allOnSheet o (l .decisions)) || (ltb mostEvents (length (l .events)) || not (reversible o (l .events) (l .decisions)))
+malformed o l =
+    not (allOnSheet o (l .decisions))
+    || (ltb mostEvents (length (l .events)) || not (reversible o (l .events) (l .decisions)))
 
 abbrev pub formCauses : Outline → Ledger → List Cause
 formCauses o l = because (malformed o l) MALFORMED ∷ []
@@ -288,7 +292,8 @@ offersCauses xs l = because (wiped xs l) WIPED-OUT ∷ []
 
 -- 15, 7, 8, 9, 10, 11, 13, 12, for an accepted sheet
 unfoldable pub judged : Outline → Call → ℕ → List ℕ → Ledger → List Cause
-judged o c engine order l = sessionCauses o c l ++ (engineCauses engine ++ (placeCauses o c ++ (orderCauses o engine order ++ stepCauses c l)))
+judged o c engine order l =
+    sessionCauses o c l ++ (engineCauses engine ++ (placeCauses o c ++ (orderCauses o engine order ++ stepCauses c l)))
 
 -- 6; 1 to 5; these; 14
 unfoldable pub causes : Given → Call → Ledger → List Cause

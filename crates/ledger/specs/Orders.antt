@@ -26,20 +26,24 @@ pub occurs-none : (x : ℕ) (l : List ℕ) → occurrences x (take 0 l) ≡ 0
 unfolding occurrences
 occurs-none x l = refl
 
-occurs-next : (x : ℕ) (l : List ℕ) (k : ℕ) → k < length l → occurrences x (take (k + 1) l) ≡ occurrences x (take k l) + digit (eqb (getD l k 0) x)
+occurs-next : (x : ℕ) (l : List ℕ) (k : ℕ) → k < length l
+    → occurrences x (take (k + 1) l) ≡ occurrences x (take k l) + digit (eqb (getD l k 0) x)
 unfolding occurrences
 occurs-next x [] k h = absurd (omega arith)
 occurs-next x (y ∷ l) zero h = let z : digit (eqb y x) + 0 ≡ 0 + digit (eqb y x) = omega arith in z
-occurs-next x (y ∷ l) (suc k) h = rw add-one (rw add-one at (ap (λ (n : ℕ). digit (eqb y x) + n) (occurs-next x l k (omega arith)) ∙ add-assoc (digit (eqb y x)) (occurrences x (take k l)) (digit (eqb (getD l k 0) x))))
+occurs-next x (y ∷ l) (suc k) h = rw add-one (rw add-one at (ap (λ (n : ℕ). digit (eqb y x) + n) (occurs-next x l k (omega arith))
+    ∙ add-assoc (digit (eqb y x)) (occurrences x (take k l)) (digit (eqb (getD l k 0) x))))
   where
     add-assoc : (a b c : ℕ) → a + (b + c) ≡ a + b + c
     add-assoc a b c = omega arith
 
 -- one place more, which holds x or does not
-pub counted : (x : ℕ) (l : List ℕ) (k times : ℕ) → k < length l → times ≡ occurrences x (take k l) → getD l k 0 ≡ x → times + 1 ≡ occurrences x (take (k + 1) l)
+pub counted : (x : ℕ) (l : List ℕ) (k times : ℕ) → k < length l → times ≡ occurrences x (take k l) → getD l k 0 ≡ x
+    → times + 1 ≡ occurrences x (take (k + 1) l)
 counted x l k times h e q = let n = occurs-next x l k h in let d = digit-true (eq-eqb (getD l k 0) x q) in omega arith
 
-pub passed : (x : ℕ) (l : List ℕ) (k times : ℕ) → k < length l → times ≡ occurrences x (take k l) → (getD l k 0 ≡ x → ⊥) → times ≡ occurrences x (take (k + 1) l)
+pub passed : (x : ℕ) (l : List ℕ) (k times : ℕ) → k < length l → times ≡ occurrences x (take k l) → (getD l k 0 ≡ x → ⊥)
+    → times ≡ occurrences x (take (k + 1) l)
 passed x l k times h e q = let n = occurs-next x l k h in let d = digit-false (ne-eqb (getD l k 0) x q) in omega arith
 
 -- ---- the number of places that hold something below n, counted field by field
@@ -78,7 +82,10 @@ sum-one (suc n) y = ⊎-elim
     (eq-cases y n)
   where
     same : (y ≡ n → ⊥) → ltb y (suc n) ≡ ltb y n
-    same q = ⊎-elim (λ e. let h = ltb-true y n e in lt-ltb y (suc n) (omega arith) ∙ sym e) (λ e. let h = ltb-false y n e in le-ltb y (suc n) (omega arith) ∙ sym e) (bool-cases (ltb y n))
+    same q = ⊎-elim
+        (λ e. let h = ltb-true y n e in lt-ltb y (suc n) (omega arith) ∙ sym e)
+        (λ e. let h = ltb-false y n e in le-ltb y (suc n) (omega arith) ∙ sym e)
+        (bool-cases (ltb y n))
 
 sum-occurs : (n : ℕ) (l : List ℕ) → sumBelow n (λ f. occurrences f l) ≡ lows n l
 unfolding occurrences lows
@@ -94,7 +101,9 @@ lows-most : (n : ℕ) (l : List ℕ) → lows n l ≤ length l
 unfolding lows
 lows-most n [] = omega arith
 lows-most n (y ∷ l) = let a = lows-most n l in ⊎-elim
-    (λ q. let b : digit (ltb y n) ≡ 1 = digit-true q in omega arith) (λ q. let b : digit (ltb y n) ≡ 0 = digit-false q in omega arith) (bool-cases (ltb y n))
+    (λ q. let b : digit (ltb y n) ≡ 1 = digit-true q in omega arith)
+    (λ q. let b : digit (ltb y n) ≡ 0 = digit-false q in omega arith)
+    (bool-cases (ltb y n))
 
 lows-all : (n : ℕ) (l : List ℕ) → lows n l ≡ length l → (q : ℕ) → q < length l → getD l q 0 < n
 unfolding lows
@@ -113,7 +122,10 @@ unfolding occurrences
 occurs-at x [] h = absurd (h refl)
 occurs-at x (y ∷ l) h = ⊎-elim
     (λ t. (0, omega arith, eqb-true y x t))
-    (λ t. let b : digit (eqb y x) ≡ 0 = digit-false t in let r = occurs-at x l (λ z. h (omega (arith, b, z))) in (suc (r .0), let k = r .1 in omega arith, r .2))
+    (λ t.
+    let b : digit (eqb y x) ≡ 0 = digit-false t in
+    let r = occurs-at x l (λ z. h (omega (arith, b, z))) in
+    (suc (r .0), let k = r .1 in omega arith, r .2))
     (bool-cases (eqb y x))
 
 -- ---- an order

@@ -12,17 +12,17 @@ use Rattle.limits.specs.Limits.{mostEvents}
 use Rattle.limits.specs.Refusals.{MALFORMED}
 use Rattle.masks.specs.Tests.{never, bool-cases, and-l, and-r, and-by, or-l}
 use Rattle.masks.specs.Pick.{pick-true, pick-false}
-use Rattle.sheet.specs.Sources.{refusal, numbers, ofBytes}
+use Rattle.sheet.specs.Sources.{numbers, ofBytes}
 use Rattle.accepted.specs.declared.outline.Outline.{Outline}
 use Rattle.accepted.specs.Outline.{outlineOf}
 use Rattle.accepted.specs.Refused.{refusal-few}
 use Rattle.ledger.specs.declared.Event.{Event}
 use Rattle.ledger.specs.declared.Call.{Call}
 use Rattle.ledger.specs.declared.Call.the-variants.{Open, Show, Decide, Back, CoilOn}
-use Rattle.ledger.specs.Ledger.{Decision, Change, adds, withdraws, neither, changeOf, Ledger, sameDecision, inForce, with, without, applied, reverted, opened}
-use Rattle.ledger.specs.Ledger.{backed, step, Given, onSheet, allOnSheet, revertible, reversible, malformed, offSheet, addedAgain, withdrawnUnheld}
-use Rattle.ledger.specs.Ledger.{first, spaceCauses, sheetCauses, sessionCauses, engineCauses, placeCauses, orderCauses, stepCauses, offersCauses}
-use Rattle.ledger.specs.Ledger.{judged, causes, number, after}
+use Rattle.ledger.specs.Ledger.{Decision, Change, adds, withdraws, neither, changeOf, Ledger, sameDecision, inForce, with, without}
+use Rattle.ledger.specs.Ledger.{applied, reverted, opened, backed, step, Given, onSheet, allOnSheet, revertible, reversible}
+use Rattle.ledger.specs.Ledger.{malformed, offSheet, addedAgain, withdrawnUnheld, sessionCauses}
+use Rattle.ledger.specs.Ledger.{placeCauses, judged, causes, number, after}
 use Rattle.ledger.specs.Causes.{Avoids, avoids-++, first-avoids}
 use Rattle.ledger.specs.Laws.{decision-at, decision-self, inForce-with, inForce-without, allOn-at, allOn-by, Alike, alike-reversible}
 use Rattle.ledger.specs.Judging.{Clear, none-applies, not-back, well-formed, session-avoids, place-avoids, step-avoids}
@@ -35,7 +35,8 @@ and-true false = refl
 
 -- a decision that was not in force, added and taken back
 added-back : (d : Decision) (ds : List Decision) → inForce ds d ≡ false → Alike (without d (with d ds)) ds
-added-back d ds n e = inForce-without d (with d ds) e ∙ ap (λ (b : Bool). b && not (sameDecision d e)) (inForce-with d ds e) ∙ go (sameDecision d e) refl
+added-back d ds n e =
+    inForce-without d (with d ds) e ∙ ap (λ (b : Bool). b && not (sameDecision d e)) (inForce-with d ds e) ∙ go (sameDecision d e) refl
   where
     go : (b : Bool) → sameDecision d e ≡ b → ((b || inForce ds e) && not b) ≡ inForce ds e
     go true q = sym (ap (inForce ds) (sym (decision-at d e q)) ∙ n)
@@ -43,14 +44,16 @@ added-back d ds n e = inForce-without d (with d ds) e ∙ ap (λ (b : Bool). b &
 
 -- a decision that was in force, withdrawn and brought back
 withdrawn-back : (d : Decision) (ds : List Decision) → inForce ds d ≡ true → Alike (with d (without d ds)) ds
-withdrawn-back d ds n e = inForce-with d (without d ds) e ∙ ap (λ (b : Bool). sameDecision d e || b) (inForce-without d ds e) ∙ go (sameDecision d e) refl
+withdrawn-back d ds n e =
+    inForce-with d (without d ds) e ∙ ap (λ (b : Bool). sameDecision d e || b) (inForce-without d ds e) ∙ go (sameDecision d e) refl
   where
     go : (b : Bool) → sameDecision d e ≡ b → (b || (inForce ds e && not b)) ≡ inForce ds e
     go true q = sym (ap (inForce ds) (sym (decision-at d e q)) ∙ n)
     go false q = and-true (inForce ds e)
 
 -- a change that neither 10 nor 11 refuses, reversed
-pub applied-back : (k : Change) (ds : List Decision) → addedAgain k ds ≡ false → withdrawnUnheld k ds ≡ false → Alike (reverted k (applied k ds)) ds
+pub applied-back : (k : Change) (ds : List Decision) → addedAgain k ds ≡ false → withdrawnUnheld k ds ≡ false
+    → Alike (reverted k (applied k ds)) ds
 applied-back (adds d) ds a b = added-back d ds a
 applied-back (withdraws d) ds a b = withdrawn-back d ds (not-back _ b)
 applied-back neither ds a b = λ e. refl
@@ -64,8 +67,8 @@ here d ds = inForce-with d ds d ∙ or-l _ _ (decision-self d)
 -- ---- what is not malformed
 
 module _ (o : Outline) where
-  formed-by : (l : Ledger) → allOnSheet o (l .decisions) ≡ true → length (l .events) ≤ mostEvents → reversible o (l .events) (l .decisions) ≡ true
-      → malformed o l ≡ false
+  formed-by : (l : Ledger) → allOnSheet o (l .decisions) ≡ true → length (l .events) ≤ mostEvents
+      → reversible o (l .events) (l .decisions) ≡ true → malformed o l ≡ false
   unfolding malformed
   formed-by l a b c = rw (a, le-ltb mostEvents (length (l .events)) b, c)
 
@@ -96,8 +99,9 @@ module _ (o : Outline) where
   on-reverted (withdraws d) ds r a = on-with d ds (and-l _ _ r) a
   on-reverted neither ds r a = a
 
-  decided-formed : (e : Event) (l : Ledger) → malformed o l ≡ false → offSheet o (changeOf e) ≡ false → addedAgain (changeOf e) (l .decisions) ≡ false
-      → withdrawnUnheld (changeOf e) (l .decisions) ≡ false → length (l .events) < mostEvents → malformed o (step (Decide e) l) ≡ false
+  decided-formed : (e : Event) (l : Ledger) → malformed o l ≡ false → offSheet o (changeOf e) ≡ false
+      → addedAgain (changeOf e) (l .decisions) ≡ false → withdrawnUnheld (changeOf e) (l .decisions) ≡ false
+      → length (l .events) < mostEvents → malformed o (step (Decide e) l) ≡ false
   unfolding step
   decided-formed e l f p a b r =
       let w = well-formed o l f in
@@ -115,16 +119,21 @@ module _ (o : Outline) where
       (on-reverted (changeOf e) ds (and-l _ _ c) a) (omega arith) (and-r (revertible o (changeOf e) ds) _ c)
 
   -- An accepted call keeps a ledger that is not malformed so.
-  clear-formed : (c : Call) (engine : ℕ) (order : List ℕ) (l : Ledger) → Clear o c engine order l → malformed o l ≡ false → malformed o (step c l) ≡ false
+  clear-formed : (c : Call) (engine : ℕ) (order : List ℕ) (l : Ledger) → Clear o c engine order l → malformed o l ≡ false
+      → malformed o (step c l) ≡ false
   clear-formed Open engine order l v f = unfold step in opened-formed
   clear-formed Show engine order l v f = unfold step in f
   clear-formed (Decide e) engine order l v f = decided-formed e l f (v .of-place .0) (v .of-step .0) (v .of-step .1 .0)
       (let w = well-formed o l f .1 in let n = eqb-false (length (l .events)) mostEvents (v .of-step .1 .1 .0) in omega arith)
-  clear-formed Back engine order l v f = unfold step in (let w = well-formed o l f in backed-formed (l .events) (l .decisions) (w .0) (w .1) (w .2))
+  clear-formed Back engine order l v f =
+      let w = well-formed o l f in
+      unfold step in backed-formed (l .events) (l .decisions) (w .0) (w .1) (w .2)
   clear-formed CoilOn engine order l v f =
-      unfold step in (let w = well-formed o l f in formed-by (record { decisions = l .decisions; events = [] }) (w .0) (omega arith) (unfold reversible in refl))
+      let w = well-formed o l f in
+      unfold step in formed-by (record { decisions = l .decisions; events = [] }) (w .0) (omega arith) (unfold reversible in refl)
 
-  judged-avoids : (c : Call) (engine : ℕ) (order : List ℕ) (l : Ledger) → malformed o l ≡ false → Avoids MALFORMED (judged o c engine order l)
+  judged-avoids : (c : Call) (engine : ℕ) (order : List ℕ) (l : Ledger) → malformed o l ≡ false
+      → Avoids MALFORMED (judged o c engine order l)
   unfolding judged
   judged-avoids c engine order l f =
       avoids-++ MALFORMED (sessionCauses o c l) _ (session-avoids MALFORMED o c l (λ e _. never e f)) (
@@ -148,8 +157,10 @@ module _ (g : Given) (l : Ledger) where
 
   pub after-formed : (c : Call) → malformed o l ≡ false → malformed o (after g c l) ≡ false
   after-formed c f = ⊎-elim
-      (λ (e : eqb (number g c l) 0 ≡ true). unfold after in rw (pick-true (eqb (number g c l) 0) (step c l) l e) (step-formed c (eqb-true _ 0 e) f))
-      (λ (e : eqb (number g c l) 0 ≡ false). unfold after in rw (pick-false (eqb (number g c l) 0) (step c l) l e) f)
+      (λ (e : eqb (number g c l) 0 ≡ true).
+      unfold after in rw (pick-true (eqb (number g c l) 0) (step c l) l e) (step-formed c (eqb-true _ 0 e) f))
+      (λ (e : eqb (number g c l) 0 ≡ false).
+      unfold after in rw (pick-false (eqb (number g c l) 0) (step c l) l e) f)
       (bool-cases (eqb (number g c l) 0))
 
   -- A call on a ledger that is not malformed does not answer 15.

@@ -2,20 +2,21 @@
 use mathlib.Core.Path.{_≡_, refl, sym, ap, ap₂, _∙_}
 use mathlib.Core.Logic.{⊎-elim}
 use mathlib.Core.Bool.{Bool, true, false, not, _&&_, and-false}
-use mathlib.Core.List.{List, [], _∷_, _++_}
+use mathlib.Core.List.{List, _++_}
 use Prim.Native.Nat.{ℕ, _<_}
 use native.Mathlib.Omega.{arith}
-use lib.Dec.{eqb, ltb}
+use lib.Dec.{eqb}
 use borrow.Author.Tests.{eqb-true, eq-eqb, ne-eqb, lt-ltb}
 use Rattle.limits.specs.Refusals.{UNKNOWN, TOO-NARROW, NO-ORDER}
-use Rattle.masks.specs.Tests.{never, not-so, iff-eq, eq-cases, and-l, and-r, and-by, or-l, or-r, or-at, someBelow, someBelow-at, someBelow-by}
+use Rattle.masks.specs.Tests.{never, not-so, and-l, and-r, and-by, or-l, or-r, or-at, someBelow, someBelow-at}
+use Rattle.masks.specs.Tests.{someBelow-by}
 use Rattle.masks.specs.Bits.{bit}
-use Rattle.masks.specs.Masks.{keepBits, bit-keepBits, someBit, someBit-at, someBit-by}
+use Rattle.masks.specs.Masks.{keepBits, bit-keepBits, someBit-at, someBit-by}
 use Rattle.masks.specs.Sets.{has}
 use Rattle.masks.specs.Pick.{pick}
 use Rattle.consistency.specs.SetUps as setUps
 use Rattle.consistency.specs.Problem.{SetUp}
-use Rattle.sheet.specs.Sources.{refusal, numbers, ofBytes}
+use Rattle.sheet.specs.Sources.{numbers, ofBytes}
 use Rattle.accepted.specs.declared.outline.Outline.{Outline}
 use Rattle.accepted.specs.Lists.{getD-tabulate}
 use Rattle.accepted.specs.Parts.{fieldsOf, countOf, reachOf, rulesOf, firstOf, secondOf, ruleAllows}
@@ -24,12 +25,13 @@ use Rattle.network.specs.SheetProblem.{runs, runs-at, pairs, joins, allowsPair,
 use Rattle.ledger.specs.declared.Event.{Event}
 use Rattle.ledger.specs.declared.Call.{Call}
 use Rattle.ledger.specs.declared.Call.the-variants.{Open, Show, Decide, Back, CoilOn}
-use Rattle.ledger.specs.Ledger.{Decision, choice, strike, changeOf, Ledger, sameDecision, inForce, without, backed, step, settings, otherChosen, starts, startSet, offersOf, wiped, Given}
-use Rattle.ledger.specs.Ledger.{Cause, first, spaceShort, spaceCauses, sheetCauses, sessionCauses, engineCauses, placeCauses, orderCauses, stepCauses, offersCauses}
-use Rattle.ledger.specs.Ledger.{judged, causes, number}
-use Rattle.ledger.specs.Causes.{Numbered, avoids-++, Misses, first-++, first-skip}
+use Rattle.ledger.specs.Ledger.{Decision, choice, strike, changeOf, Ledger, sameDecision, inForce, without, backed, step, settings}
+use Rattle.ledger.specs.Ledger.{otherChosen, starts, startSet, offersOf, wiped, Given, Cause, first, spaceShort, spaceCauses}
+use Rattle.ledger.specs.Ledger.{sheetCauses, sessionCauses, engineCauses, placeCauses, orderCauses, stepCauses, offersCauses, judged}
+use Rattle.ledger.specs.Ledger.{causes, number}
+use Rattle.ledger.specs.Causes.{first-++, first-skip}
 use Rattle.ledger.specs.Laws.{decision-at, inForce-without, SameLedger, alike-offers}
-use Rattle.ledger.specs.Judging.{Clear, none-applies, space-numbered, sheet-numbered, session-numbered, early-numbered}
+use Rattle.ledger.specs.Judging.{none-applies, space-numbered, sheet-numbered, session-numbered, early-numbered}
 use Rattle.ledger.specs.Sound.{and-true, applied-back}
 
 -- ---- the start set, in 01's three cases
@@ -39,7 +41,8 @@ not-back true e = sym e
 not-back false e = refl
 
 module _ (o : Outline) (ds : List Decision) (f : ℕ) where
-  other-at : (v : ℕ) → otherChosen o ds f v ≡ true → (u : ℕ) × (has (o .full) f u ≡ true) × (inForce ds (choice f u) ≡ true) × (eqb u v ≡ false)
+  other-at : (v : ℕ) → otherChosen o ds f v ≡ true
+      → (u : ℕ) × (has (o .full) f u ≡ true) × (inForce ds (choice f u) ≡ true) × (eqb u v ≡ false)
   unfolding otherChosen has
   other-at v e =
       let x = someBit-at (settings o f) (λ u. inForce ds (choice f u) && not (eqb u v)) e in
@@ -50,9 +53,12 @@ module _ (o : Outline) (ds : List Decision) (f : ℕ) where
   other-by v u h c n = someBit-by (settings o f) (λ u. inForce ds (choice f u) && not (eqb u v)) u h (and-by _ _ c (ap not n))
 
   -- no choice: all that are not struck
-  pub start-free : ((u : ℕ) → has (o .full) f u ≡ true → inForce ds (choice f u) ≡ false) → (v : ℕ) → starts o ds f v ≡ not (inForce ds (strike f v))
+  pub start-free : ((u : ℕ) → has (o .full) f u ≡ true → inForce ds (choice f u) ≡ false)
+      → (v : ℕ) → starts o ds f v ≡ not (inForce ds (strike f v))
   unfolding starts
-  start-free n v = rw (not-so (otherChosen o ds f v) (λ e. let x = other-at v e in never (x .2) (n (x .0) (x .1)))) (and-true (not (inForce ds (strike f v))))
+  start-free n v =
+      let none = not-so (otherChosen o ds f v) (λ e. let x = other-at v e in never (x .2) (n (x .0) (x .1))) in
+      rw none (and-true (not (inForce ds (strike f v))))
 
   -- one choice: only the chosen one, if it is not struck
   pub start-one : (w : ℕ) → has (o .full) f w ≡ true → inForce ds (choice f w) ≡ true
@@ -62,7 +68,9 @@ module _ (o : Outline) (ds : List Decision) (f : ℕ) where
   start-one w h c only v = ap (λ (b : Bool). not (inForce ds (strike f v)) && b) (go (eqb w v) refl)
     where
       go : (b : Bool) → eqb w v ≡ b → not (otherChosen o ds f v) ≡ b
-      go true e = ap not (not-so (otherChosen o ds f v) (λ s. let x = other-at v s in never (eq-eqb (x .0) v (only (x .0) (x .1) (x .2) ∙ eqb-true w v e)) (x .3)))
+      go true e = ap not (not-so (otherChosen o ds f v) (λ s.
+          let x = other-at v s in
+          never (eq-eqb (x .0) v (only (x .0) (x .1) (x .2) ∙ eqb-true w v e)) (x .3)))
       go false e = ap not (other-by v w h c e)
 
   -- two or more: none
@@ -95,17 +103,24 @@ module _ (xs : List ℕ) (ds : List Decision) (a : ℕ → ℕ) (o : Obeys xs ds
   inside f h =
       let on : has (outlineOf xs .full) f (a f) ≡ true = full-has xs f (a f) ∙ and-by _ _ (lt-ltb f _ h) (lt-ltb (a f) _ (o .on f h)) in
       let n : f < outlineOf xs .fields = unfold outlineOf in h in
-      ap (λ (m : ℕ). bit m (a f)) (getD-tabulate (outlineOf xs .fields) (λ f. keepBits (settings (outlineOf xs) f) (starts (outlineOf xs) ds f)) f n)
-      ∙ bit-keepBits (settings (outlineOf xs) f) (starts (outlineOf xs) ds f) (a f) ∙ and-by _ _ on (starts-so f h)
+      ap (λ (m : ℕ). bit m (a f))
+      (getD-tabulate (outlineOf xs .fields) (λ f. keepBits (settings (outlineOf xs) f) (starts (outlineOf xs) ds f)) f n)
+      ∙ bit-keepBits (settings (outlineOf xs) f) (starts (outlineOf xs) ds f) (a f)
+      ∙ and-by _ _ on (starts-so f h)
 
   -- where a rule joins two fields, it allows their settings
   both : (f g r : ℕ) → f < fieldsOf xs → g < fieldsOf xs → r < rulesOf xs → runs xs f g r ≡ true → pairs xs f g (a f) (a g) r ≡ true
   unfolding pairs
-  both f g r h k l q = let e = runs-at xs f g r q in
-      and-by _ _ (lt-ltb (a f) (countOf xs f) (o .on f h)) (and-by _ _ (lt-ltb (a g) (countOf xs g) (o .on g k)) (ap₂ (λ (x y : ℕ). ruleAllows xs r (a x) (a y)) (sym (e .0)) (sym (e .1)) ∙ o .allowed r l))
+  both f g r h k l q =
+      let e = runs-at xs f g r q in
+      let allows = ap₂ (λ (x y : ℕ). ruleAllows xs r (a x) (a y)) (sym (e .0)) (sym (e .1)) ∙ o .allowed r l in
+      and-by _ _ (lt-ltb (a f) (countOf xs f) (o .on f h)) (and-by _ _ (lt-ltb (a g) (countOf xs g) (o .on g k)) allows)
 
-  agrees : (f g : ℕ) → f < fieldsOf xs → g < fieldsOf xs → someBelow (rulesOf xs) (joins xs f g) ≡ true → someBelow (rulesOf xs) (allowsPair xs f g (a f) (a g)) ≡ true
-  agrees f g h k e = let x = someBelow-at (rulesOf xs) (joins xs f g) e in someBelow-by (rulesOf xs) (allowsPair xs f g (a f) (a g)) (x .0) (x .1) (⊎-elim
+  agrees : (f g : ℕ) → f < fieldsOf xs → g < fieldsOf xs → someBelow (rulesOf xs) (joins xs f g) ≡ true
+      → someBelow (rulesOf xs) (allowsPair xs f g (a f) (a g)) ≡ true
+  agrees f g h k e =
+      let x = someBelow-at (rulesOf xs) (joins xs f g) e in
+      someBelow-by (rulesOf xs) (allowsPair xs f g (a f) (a g)) (x .0) (x .1) (⊎-elim
       (λ q. or-l _ _ (and-by _ _ q (both f g (x .0) h k (x .1) q)))
       (λ q. or-r (runs xs f g (x .0) && pairs xs f g (a f) (a g) (x .0)) _ (and-by _ _ q (both g f (x .0) k h (x .1) q)))
       (or-at (runs xs f g (x .0)) (runs xs g f (x .0)) (x .2)))
@@ -117,7 +132,8 @@ module _ (xs : List ℕ) (ds : List Decision) (a : ℕ → ℕ) (o : Obeys xs ds
       field f h = unfold sheetProblem in h
 
   pub set-up-kept : (es : List Event) (f : ℕ) → f < fieldsOf xs → has (offersOf xs (record { decisions = ds; events = es })) f (a f) ≡ true
-  set-up-kept es f h = unfold offersOf in setUps.set-up-offered (sheetProblem xs) (startSet (outlineOf xs) ds) a set-up (reachOf xs) f (unfold sheetProblem in h)
+  set-up-kept es f h = unfold offersOf in
+      setUps.set-up-offered (sheetProblem xs) (startSet (outlineOf xs) ds) a set-up (reachOf xs) f (unfold sheetProblem in h)
 
   -- so it is not refused as wiped out
   pub set-up-shown : (es : List Event) → wiped xs (record { decisions = ds; events = es }) ≡ false
@@ -126,7 +142,8 @@ module _ (xs : List ℕ) (ds : List Decision) (a : ℕ → ℕ) (o : Obeys xs ds
 -- ---- a withdrawn decision leaves the page as if it had never been made
 
 -- `m` has the decisions that would be in force had d never been made: the others of l, and not d.
-module _ (xs : List ℕ) (d : Decision) (l m : Ledger) (others : (e : Decision) → sameDecision d e ≡ false → inForce (l .decisions) e ≡ inForce (m .decisions) e)
+module _ (xs : List ℕ) (d : Decision) (l m : Ledger)
+    (others : (e : Decision) → sameDecision d e ≡ false → inForce (l .decisions) e ≡ inForce (m .decisions) e)
     (n : inForce (m .decisions) d ≡ false) where
   pub withdrawn-leaves : (es : List Event) → offersOf xs (record { decisions = without d (l .decisions); events = es }) ≡ offersOf xs m
   withdrawn-leaves es = alike-offers (record { decisions = without d (l .decisions); events = es }) m xs
@@ -159,64 +176,81 @@ pub record Admitted (k : ℕ) : Type 0 where
 admitted-0 : Admitted 0
 admitted-0 = record { not-7 = λ z. omega arith; not-8 = λ z. omega arith; not-9 = λ z. omega arith }
 
--- where no cause of engine, decision or order decides, those of the session and the step do
-judged-else : (o : Outline) (c : Call) (engine : ℕ) (order : List ℕ) (l : Ledger) → Admitted (first (judged o c engine order l))
-    → first (judged o c engine order l) ≡ pick (eqb (first (sessionCauses o c l)) 0) (first (stepCauses c l)) (first (sessionCauses o c l))
-unfolding judged
-judged-else o c engine order l t = whole ∙ go (eqb (first (sessionCauses o c l)) 0) (rw whole at t)
-  where
-    rest : List Cause
-    rest = engineCauses engine ++ (placeCauses o c ++ (orderCauses o engine order ++ stepCauses c l))
+-- the causes of the decision that a call names, where none of them decides
+place-skipped : (o : Outline) (c : Call) (rest : List Cause) → Admitted (first (placeCauses o c ++ rest))
+    → first (placeCauses o c ++ rest) ≡ first rest
+place-skipped o Open rest t = refl
+place-skipped o Show rest t = refl
+place-skipped o (Decide e) rest t = first-skip (placeCauses o (Decide e)) rest (t .not-7, tt)
+place-skipped o Back rest t = refl
+place-skipped o CoilOn rest t = refl
 
-    whole : first (sessionCauses o c l ++ (engineCauses engine ++ (placeCauses o c ++ (orderCauses o engine order ++ stepCauses c l))))
-        ≡ pick (eqb (first (sessionCauses o c l)) 0)
-        (first (engineCauses engine ++ (placeCauses o c ++ (orderCauses o engine order ++ stepCauses c l)))) (first (sessionCauses o c l))
-    whole = first-++ (sessionCauses o c l) _ (session-numbered o c engine order l)
+module _ (o : Outline) (c : Call) (engine : ℕ) (order : List ℕ) (l : Ledger) where
+  -- the causes after those of the place, of the engine, and of the session
+  abbrev late : List Cause
+  late = orderCauses o engine order ++ stepCauses c l
 
-    placed : (c : Call) → Admitted (first (placeCauses o c ++ (orderCauses o engine order ++ stepCauses c l)))
-        → first (placeCauses o c ++ (orderCauses o engine order ++ stepCauses c l)) ≡ first (orderCauses o engine order ++ stepCauses c l)
-    placed Open t = refl
-    placed Show t = refl
-    placed (Decide e) t = first-skip (placeCauses o (Decide e)) _ (t .not-7, tt)
-    placed Back t = refl
-    placed CoilOn t = refl
+  abbrev placed : List Cause
+  placed = placeCauses o c ++ late
 
-    skipped : Admitted (first (engineCauses engine ++ (placeCauses o c ++ (orderCauses o engine order ++ stepCauses c l))))
-        → first (engineCauses engine ++ (placeCauses o c ++ (orderCauses o engine order ++ stepCauses c l))) ≡ first (stepCauses c l)
-    skipped t =
-        let a = first-skip (engineCauses engine) (placeCauses o c ++ (orderCauses o engine order ++ stepCauses c l)) (t .not-7, tt) in
-        let b = placed c (rw a at t) in
-        let d = rw b at (rw a at t) in
-        a ∙ b ∙ first-skip (orderCauses o engine order) (stepCauses c l) (d .not-8, (d .not-9, tt))
+  abbrev rest : List Cause
+  rest = engineCauses engine ++ placed
 
-    go : (s : Bool) → Admitted (pick s (first (engineCauses engine ++ (placeCauses o c ++ (orderCauses o engine order ++ stepCauses c l)))) (first (sessionCauses o c l)))
-        → pick s (first (engineCauses engine ++ (placeCauses o c ++ (orderCauses o engine order ++ stepCauses c l)))) (first (sessionCauses o c l))
-        ≡ pick s (first (stepCauses c l)) (first (sessionCauses o c l))
-    go true t = unfold pick in skipped (unfold pick in t)
-    go false t = unfold pick in refl
+  skipped : Admitted (first rest) → first rest ≡ first (stepCauses c l)
+  skipped t =
+      let a = first-skip (engineCauses engine) placed (t .not-7, tt) in
+      let b = place-skipped o c late (rw a at t) in
+      let d = rw b at (rw a at t) in
+      a ∙ b ∙ first-skip (orderCauses o engine order) (stepCauses c l) (d .not-8, (d .not-9, tt))
 
--- the stages of a number, each deciding where those before it have no cause that applies
-number-stages : (g : Given) (c : Call) (l : Ledger) → number g c l
-    ≡ pick (eqb (first (spaceCauses g)) 0) (pick (eqb (first (sheetCauses (g .sheet))) 0)
-    (pick (eqb (first (judged (outlineOf (numbers (ofBytes (g .sheet)))) c (g .engine) (g .order) l)) 0)
-    (first (offersCauses (numbers (ofBytes (g .sheet))) (step c l))) (first (judged (outlineOf (numbers (ofBytes (g .sheet)))) c (g .engine) (g .order) l)))
-    (first (sheetCauses (g .sheet)))) (first (spaceCauses g))
-unfolding number causes
-number-stages g c l = rw (
-  first-++ (spaceCauses g) _ (space-numbered g c l),
-  first-++ (sheetCauses (g .sheet)) _ (sheet-numbered g c l),
-  first-++ (judged (outlineOf (numbers (ofBytes (g .sheet)))) c (g .engine) (g .order) l) _ (early-numbered g c l),
-)
+  -- where no cause of engine, decision or order decides, those of the session and the step do
+  judged-else : Admitted (first (judged o c engine order l)) → first (judged o c engine order l)
+      ≡ pick (eqb (first (sessionCauses o c l)) 0) (first (stepCauses c l)) (first (sessionCauses o c l))
+  unfolding judged
+  judged-else t = whole ∙ go (eqb (first (sessionCauses o c l)) 0) (rw whole at t)
+    where
+      whole : first (sessionCauses o c l ++ rest)
+          ≡ pick (eqb (first (sessionCauses o c l)) 0) (first rest) (first (sessionCauses o c l))
+      whole = first-++ (sessionCauses o c l) _ (session-numbered o c engine order l)
+
+      go : (s : Bool) → Admitted (pick s (first rest) (first (sessionCauses o c l)))
+          → pick s (first rest) (first (sessionCauses o c l)) ≡ pick s (first (stepCauses c l)) (first (sessionCauses o c l))
+      go true t = unfold pick in skipped (unfold pick in t)
+      go false t = unfold pick in refl
+
+module _ (g : Given) (c : Call) (l : Ledger) where
+  abbrev xs : List ℕ
+  xs = numbers (ofBytes (g .sheet))
+
+  abbrev early : List Cause
+  early = judged (outlineOf xs) c (g .engine) (g .order) l
+
+  -- the stages of a number, each deciding where those before it have no cause that applies
+  number-stages : number g c l
+      ≡ pick (eqb (first (spaceCauses g)) 0)
+      (pick (eqb (first (sheetCauses (g .sheet))) 0)
+      (pick (eqb (first early) 0) (first (offersCauses xs (step c l))) (first early))
+      (first (sheetCauses (g .sheet))))
+      (first (spaceCauses g))
+  unfolding number causes
+  number-stages = rw (
+    first-++ (spaceCauses g) _ (space-numbered g c l),
+    first-++ (sheetCauses (g .sheet)) _ (sheet-numbered g c l),
+    first-++ early _ (early-numbered g c l),
+  )
 
 -- Whatever engine and order a call is given, if it is not refused for them: the same number.
-pub engine-and-order : (g : Given) (engine : ℕ) (order : List ℕ) (c : Call) (l : Ledger) → Admitted (number g c l) → Admitted (number (lending g engine order) c l)
+pub engine-and-order : (g : Given) (engine : ℕ) (order : List ℕ) (c : Call) (l : Ledger)
+    → Admitted (number g c l) → Admitted (number (lending g engine order) c l)
     → number g c l ≡ number (lending g engine order) c l
 unfolding spaceShort
 engine-and-order g engine order c l s t =
     let a = number-stages g c l in
     let b = number-stages (lending g engine order) c l in
     let o = outlineOf (numbers (ofBytes (g .sheet))) in
-    a ∙ go (eqb (first (spaceCauses g)) 0) (eqb (first (sheetCauses (g .sheet))) 0) (first (spaceCauses g)) (first (sheetCauses (g .sheet))) _ _ _
+    let p = first (spaceCauses g) in
+    let q = first (sheetCauses (g .sheet)) in
+    a ∙ go (eqb p 0) (eqb q 0) p q _ _ _
     (λ x y. judged-else o c (g .engine) (g .order) l x ∙ sym (judged-else o c engine order l y)) (rw a at s) (rw b at t) ∙ sym b
   where
     found : (k r : ℕ) → Admitted (pick (eqb k 0) r k) → Admitted k
@@ -226,8 +260,10 @@ engine-and-order g engine order c l s t =
         by true e t = rw (eqb-true k 0 e) admitted-0
         by false e t = unfold pick in t
 
-    go : (a b : Bool) (p q r j k : ℕ) → (Admitted j → Admitted k → j ≡ k) → Admitted (pick a (pick b (pick (eqb j 0) r j) q) p) → Admitted (pick a (pick b (pick (eqb k 0) r k) q) p)
+    go : (a b : Bool) (p q r j k : ℕ) → (Admitted j → Admitted k → j ≡ k)
+        → Admitted (pick a (pick b (pick (eqb j 0) r j) q) p) → Admitted (pick a (pick b (pick (eqb k 0) r k) q) p)
         → pick a (pick b (pick (eqb j 0) r j) q) p ≡ pick a (pick b (pick (eqb k 0) r k) q) p
     go false b p q r j k h s t = unfold pick in refl
     go true false p q r j k h s t = unfold pick in refl
-    go true true p q r j k h s t = ap (λ (n : ℕ). pick true (pick true (pick (eqb n 0) r n) q) p) (h (found j r (unfold pick in s)) (found k r (unfold pick in t)))
+    go true true p q r j k h s t =
+        ap (λ (n : ℕ). pick true (pick true (pick (eqb n 0) r n) q) p) (h (found j r (unfold pick in s)) (found k r (unfold pick in t)))

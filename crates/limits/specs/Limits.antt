@@ -49,3 +49,7 @@ memoryWords = 13824
 -- the words of one of the two tables that the first work space holds
 abbrev pub tableWords : ℕ
 tableWords = 6624
+
+-- the bytes of the text that the program prints: 24 lines of at most 2 + 1 + 24 * (1 + 10) + 1
+abbrev pub textBytes : ℕ
+textBytes = 6432

@@ -40,3 +40,6 @@ pub const MEMORY_WORDS: usize = 13824;
 
 // The words of one of the two tables that the first work space holds.
 pub const TABLE_WORDS: usize = 6624;
+
+// The most bytes of the text that the program prints: 24 lines of at most 2 + 1 + 24 * (1 + 10) + 1.
+pub const TEXT_BYTES: usize = 6432;

@@ -12,9 +12,9 @@ use lib.Seq.{getD-set-same, getD-set-other}
 use borrow.Author.Tests.{lt-ltb, ltb-true, ltb-false, eq-eqb}
 use Rattle.limits.specs.Limits.{mostSettings, mostRules, tableWords}
 use Rattle.masks.specs.Tests.{bool-cases}
-use Rattle.masks.specs.Bits.{bit}
-use Rattle.masks.specs.Masks.{bit-maskOf, maskOf-lt}
-use Rattle.masks.specs.Loops.{mask-cong, mask-self}
+use Rattle.masks.specs.Bits.{bit, bit-high}
+use Rattle.masks.specs.Masks.{maskOf, bit-maskOf, maskOf-lt}
+use Rattle.masks.specs.Loops.{mask-short, mask-cong}
 use Rattle.masks.specs.Sets.{getD-zeros}
 use Rattle.masks.specs.Pick.{pick-true}
 use Rattle.accepted.specs.Parts.{countOf, firstOf, secondOf, kindOf, numberOf, valueOf, ruleAllows}
@@ -58,12 +58,15 @@ pub record RuleStored (xs : List ℕ) (r : ℕ) (rows rows' : List ℕ) : Type 0
 
 module _ (xs : List ℕ) (r place i j atI atJ : ℕ) (g : RuleFields xs r place i j atI atJ) where
   -- a rule of kind 0 has its rows as masks
-  pub row-mask : (v c : ℕ) → kindOf xs r ≡ 0 → v < countOf xs i → c ≡ numberOf xs r v → c ≡ rowOf xs r v
+  pub row-mask : (v c : ℕ) → kindOf xs r ≡ 0 → v < countOf xs i → c ≡ numberOf xs r v → maskOf mostSettings (bit c) ≡ rowOf xs r v
   row-mask v c k h e =
       let z = eq-eqb (kindOf xs r) 0 k in
       let n : numberOf xs r v ≡ valueOf xs r v = pick-true _ _ _ z in
       let m = facts xs (g .rule .accepted) .mask-lt r v (g .rule .within) k (rw (g .first) at h) .0 in
-      e ∙ n ∙ sym (mask-self _ (valueOf xs r v) m)
+      ap (λ (x : ℕ). maskOf mostSettings (bit x)) (e ∙ n)
+      ∙ mask-short (countOf xs (secondOf xs r)) mostSettings (bit (valueOf xs r v))
+      (rw (g .second) at (counts-few xs r place i j atI atJ g .1))
+      (λ u l. bit-high (countOf xs (secondOf xs r)) (valueOf xs r v) u m l)
       ∙ mask-cong (countOf xs (secondOf xs r)) (bit (valueOf xs r v)) (λ u. ruleAllows xs r v u)
       (λ u l. sym (pick-true _ _ _ z ∙ ap (λ (x : ℕ). bit x u) n))
       ∙ rw (g .second) at (row-is xs r place i j atI atJ g v h)

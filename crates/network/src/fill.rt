@@ -2,7 +2,9 @@
 ghost use mathlib.Core.Path.{_≡_};
 ghost use Prim.Native.Nat.{_<_, _≤_};
 ghost use lib.ListN.{length};
-ghost use Rattle.limits.specs.Limits.{rowsWords};
+ghost use Rattle.limits.specs.Limits.{mostSettings, rowsWords};
+ghost use Rattle.masks.specs.Bits.{bit};
+ghost use Rattle.masks.specs.Masks.{maskOf};
 ghost use Rattle.sheet.specs.Sources.{Accepted};
 ghost use Rattle.accepted.specs.Parts.{countOf, rulesOf, firstOf, secondOf, RuleAt};
 ghost use Rattle.network.specs.Tables.{forwardOf, turnedOf};
@@ -19,7 +21,24 @@ use limits::SETTINGS;
 use limits::TABLE_WORDS;
 use masks::one_bit;
 
-// Row v of rule r: the positions of j that the rule allows beside position v of i. A rule of kind 0 has it as a mask.
+// The row of a position whose mask in a rule of kind 0 is c. Such a rule looks at positions, not at settings, and c has none past those
+// of j.
+fn row_of_mask(c: u32) -> u32
+    ensures { λ x. ⌜ x ≡ maskOf mostSettings (bit c) ⌝ }
+{
+    let mut mask: u32 = 0;
+    let mut u: usize = 0;
+    while u < SETTINGS {
+        let b = u;
+        u += 1;
+        if allowed(0, c, 0, 0, b as u32) {
+            mask |= one_bit(b);
+        }
+    }
+    mask
+}
+
+// Row v of rule r: the positions of j that the rule allows beside position v of i.
 fn row_of_rule(
     numbers: &[u32],
     r: usize,
@@ -36,7 +55,7 @@ fn row_of_rule(
     let kind = parts::kind(numbers, r, place);
     let c = parts::number(numbers, r, place, v);
     if kind == 0 {
-        return c;
+        return row_of_mask(c);
     }
     let p = parts::setting_at(numbers, i, at_i, v);
     let n = parts::count_at(numbers, j, at_j);

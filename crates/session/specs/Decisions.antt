@@ -64,7 +64,8 @@ found-past masks f v n h = record {
   low = λ e. absurd (never e refl);
 }
 
-pub found-at : (masks : List ℕ) (f v : ℕ) (r : Bool) → f < mostFields → (r ≡ bit (getD masks f 0) v) × (r ≡ true → v < 32) → Found masks f v r
+pub found-at : (masks : List ℕ) (f v : ℕ) (r : Bool) → f < mostFields → (r ≡ bit (getD masks f 0) v) × (r ≡ true → v < 32)
+    → Found masks f v r
 unfolding has
 found-at masks f v r h b = record { is = b .0; low = λ e. (h, b .1 e) }
 
@@ -82,11 +83,6 @@ lost-long : (d : Decisions) (x : Decision) → Long d → Long (lost d x)
 lost-long d (choice f v) l = record { choices = length-lose (d .choices) f v ∙ l .choices; strikes = l .strikes }
 lost-long d (strike f v) l = record { choices = l .choices; strikes = length-lose (d .strikes) f v ∙ l .strikes }
 
-pub applied-long : (k : Change) (d : Decisions) → Long d → Long (appliedIn k d)
-applied-long (adds x) d l = gained-long d x l
-applied-long (withdraws x) d l = lost-long d x l
-applied-long neither d l = l
-
 pub reverted-long : (k : Change) (d : Decisions) → Long d → Long (revertedIn k d)
 reverted-long (adds x) d l = lost-long d x l
 reverted-long (withdraws x) d l = gained-long d x l
@@ -99,7 +95,10 @@ and-true true = refl
 and-true false = refl
 
 eqb-turn : (a b : ℕ) → eqb a b ≡ eqb b a
-eqb-turn a b = ⊎-elim (λ (q : a ≡ b). eq-eqb a b q ∙ sym (eq-eqb b a (sym q))) (λ q. ne-eqb a b q ∙ sym (ne-eqb b a (λ z. q (sym z)))) (eq-cases a b)
+eqb-turn a b = ⊎-elim
+    (λ (q : a ≡ b). eq-eqb a b q ∙ sym (eq-eqb b a (sym q)))
+    (λ q. ne-eqb a b q ∙ sym (ne-eqb b a (λ z. q (sym z))))
+    (eq-cases a b)
 
 or-turn : (a b : Bool) → (a || b) ≡ (b || a)
 or-turn true true = refl
@@ -111,7 +110,8 @@ has-gain : (S : List ℕ) (f v g u : ℕ) → f < length S → has (gain S f v) 
 unfolding has
 has-gain S f v g u l = ⊎-elim
     (λ (q : f ≡ g). rw (sym q) (ap (λ (m : ℕ). bit m u) (getD-set-same S f _ 0 l) ∙ bit-or (getD S f 0) (2 ^ v) u
-    ∙ ap (λ (b : Bool). bit (getD S f 0) u || b) (bit-one v u ∙ eqb-turn u v) ∙ or-turn (bit (getD S f 0) u) (eqb v u) ∙ rw (eq-eqb f f refl)))
+    ∙ ap (λ (b : Bool). bit (getD S f 0) u || b) (bit-one v u ∙ eqb-turn u v)
+    ∙ or-turn (bit (getD S f 0) u) (eqb v u) ∙ rw (eq-eqb f f refl)))
     (λ q. ap (λ (m : ℕ). bit m u) (getD-set-other S f g _ 0 (λ z. q (sym z))) ∙ rw (ne-eqb f g q))
     (eq-cases f g)
 

@@ -2,30 +2,30 @@
 use mathlib.Core.Path.{_≡_, refl, sym, ap, _∙_}
 use mathlib.Core.Logic.{⊎-elim}
 use mathlib.Core.Bool.{Bool, true, false, not, _&&_, _||_}
-use mathlib.Core.List.{List, _∷_}
+use mathlib.Core.List.{List}
 use Prim.Native.Nat.{ℕ, _+_, _-_, _^_, _≤_, _<_}
-use native.Mathlib.Nat.{eq-or-lt-of-le}
 use native.Mathlib.Omega.{arith}
 use lib.Bits.{bitAnd}
 use lib.Dec.{eqb, ltb}
 use lib.ListN.{length, getD, List·getD-eq-default}
 use borrow.Author.Count.{below-more}
-use borrow.Author.Tests.{eqb-true, eq-eqb, ne-eqb, ltb-true, ltb-false, lt-ltb, le-ltb}
+use borrow.Author.Tests.{eqb-true, eq-eqb, ltb-true, ltb-false, lt-ltb, le-ltb}
 use Rattle.limits.specs.Limits.{mostFields, mostEvents}
 use Rattle.masks.specs.Tests.{never, not-so, bool-cases, iff-eq, and-l, and-r, and-by, allBelow, allBelow-at, allBelow-by}
-use Rattle.masks.specs.Bits.{bit, bit-of-zero, bit-ext, bit-nonzero, Within}
+use Rattle.masks.specs.Bits.{bit, bit-of-zero, bit-ext, bit-nonzero}
 use Rattle.masks.specs.Masks.{keepBits, bit-keepBits}
 use Rattle.masks.specs.Words.{bit-and-not}
 use Rattle.masks.specs.Sets.{has}
 use Rattle.accepted.specs.declared.outline.Outline.{Outline}
 use Rattle.ledger.specs.declared.Event.{Event}
-use Rattle.ledger.specs.Ledger.{Decision, choice, strike, Change, adds, withdraws, neither, changeOf, sameDecision, inForce, with, without, applied, reverted}
-use Rattle.ledger.specs.Ledger.{onSheet, allOnSheet, revertible, reversible, malformed}
+use Rattle.ledger.specs.Ledger.{Decision, choice, strike, Change, adds, withdraws, neither, changeOf, sameDecision, inForce, with, without}
+use Rattle.ledger.specs.Ledger.{applied, reverted, onSheet, allOnSheet, revertible, reversible, malformed}
 use Rattle.ledger.specs.Kinds.{change-any}
 use Rattle.ledger.specs.Laws.{inForce-with, inForce-without, allOn-at, allOn-by, Alike, alike-reversible}
 use Rattle.session.specs.declared.Session.{Session}
 use Rattle.session.specs.declared.decisions.Decisions.{Decisions}
-use Rattle.session.specs.Decisions.{heldIn, gained, lost, appliedIn, revertedIn, Found, Long, reverted-long, Low, LowChange, change-low, held-gained, held-lost}
+use Rattle.session.specs.Decisions.{heldIn, gained, lost, appliedIn, revertedIn, Found, Long, reverted-long, Low, LowChange}
+use Rattle.session.specs.Decisions.{change-low, held-gained, held-lost}
 use Rattle.session.specs.View.{decisionsOf, inForce-of, noEvent, past, length-past, past-latest, view}
 
 -- ---- a decision on the sheet
@@ -71,12 +71,15 @@ module _ (full ms : List ℕ) where
   unfolding masksOnSheet has
   masks-at n e f v b = ⊎-elim
       (λ q. inside (eqb-true _ 0 (allBelow-at mostFields _ e f (ltb-true f mostFields q))))
-      (λ q. absurd (never b (ap (λ (x : ℕ). bit x v) (List·getD-eq-default ms 0 (let l = ltb-false f mostFields q in omega arith)) ∙ bit-of-zero v)))
+      (λ q.
+      let none : getD ms f 0 ≡ 0 = List·getD-eq-default ms 0 (let l = ltb-false f mostFields q in omega arith) in
+      absurd (never b (ap (λ (x : ℕ). bit x v) none ∙ bit-of-zero v)))
       (bool-cases (ltb f mostFields))
     where
       inside : strangers (getD full f 0) (getD ms f 0) ≡ 0 → bit (getD full f 0) v ≡ true
       inside z = ⊎-elim (λ q. q)
-          (λ q. absurd (bit-nonzero (strangers (getD full f 0) (getD ms f 0)) v (bit-keepBits (getD ms f 0) (λ v. not (bit (getD full f 0) v)) v ∙ and-by _ _ b (ap not q)) z))
+          (λ q. absurd (bit-nonzero (strangers (getD full f 0) (getD ms f 0)) v
+          (bit-keepBits (getD ms f 0) (λ v. not (bit (getD full f 0) v)) v ∙ and-by _ _ b (ap not q)) z))
           (bool-cases (bit (getD full f 0) v))
 
   pub masks-by : ((f v : ℕ) → has ms f v ≡ true → has full f v ≡ true) → masksOnSheet full ms ≡ true
@@ -90,11 +93,14 @@ module _ (o : Outline) (d : Decisions) (l : Long d) where
   pub all-on : allOnSheet o (decisionsOf d) ≡ (masksOnSheet (o .full) (d .choices) && masksOnSheet (o .full) (d .strikes))
   unfolding onSheet
   all-on = iff-eq _ _
-      (λ h. and-by _ _ (masks-by (o .full) (d .choices) (λ f v b. allOn-at o (decisionsOf d) h (choice f v) (inForce-of d (choice f v) ∙ b)))
+      (λ h. and-by _ _
+      (masks-by (o .full) (d .choices) (λ f v b. allOn-at o (decisionsOf d) h (choice f v) (inForce-of d (choice f v) ∙ b)))
       (masks-by (o .full) (d .strikes) (λ f v b. allOn-at o (decisionsOf d) h (strike f v) (inForce-of d (strike f v) ∙ b))))
-      (λ h. allOn-by o (decisionsOf d) (λ e q. by e (sym (inForce-of d e) ∙ q) (and-l _ _ h) (and-r (masksOnSheet (o .full) (d .choices)) _ h)))
+      (λ h. allOn-by o (decisionsOf d) (λ e q.
+      by e (sym (inForce-of d e) ∙ q) (and-l _ _ h) (and-r (masksOnSheet (o .full) (d .choices)) _ h)))
     where
-      by : (e : Decision) → heldIn d e ≡ true → masksOnSheet (o .full) (d .choices) ≡ true → masksOnSheet (o .full) (d .strikes) ≡ true → onSheet o e ≡ true
+      by : (e : Decision) → heldIn d e ≡ true → masksOnSheet (o .full) (d .choices) ≡ true
+          → masksOnSheet (o .full) (d .strikes) ≡ true → onSheet o e ≡ true
       by (choice f v) b p q = unfold onSheet in masks-at (o .full) (d .choices) (l .choices) p f v b
       by (strike f v) b p q = unfold onSheet in masks-at (o .full) (d .strikes) (l .strikes) q f v b
 
@@ -146,7 +152,10 @@ module _ (o : Outline) (d : Decisions) (e : Event) where
       revert-addition q = record { is = rw q (h ∙ sym (inForce-of d x) ∙ here (inForce (decisionsOf d) x)); low = λ _. found .low y }
 
       pub revert-withdrawal : changeOf e ≡ withdraws x → CanRevert o d e (not r)
-      revert-withdrawal q = record { is = rw q (ap not (h ∙ sym (inForce-of d x)) ∙ here (not (inForce (decisionsOf d) x))); low = λ _. found .low y }
+      revert-withdrawal q = record {
+        is = rw q (ap not (h ∙ sym (inForce-of d x)) ∙ here (not (inForce (decisionsOf d) x)));
+        low = λ _. found .low y;
+      }
 
   pub revert-none : changeOf e ≡ neither → CanRevert o d e false
   revert-none q = record { is = rw q; low = λ z. absurd (never z refl) }
@@ -168,7 +177,8 @@ module _ (o : Outline) (start : Decisions) (es : List Event) (count : ℕ) where
     latest : (b : Bool) → revertible o (changeOf e) (decisionsOf d) ≡ b
         → reversible o (past es count) (decisionsOf start) ≡ (b && reversible o (past es (k - 1)) (reverted (changeOf e) (decisionsOf d)))
     unfolding reversible
-    latest b q = p .rest ∙ rw (past-latest es k h) (ap (λ (t : Bool). t && reversible o (past es (k - 1)) (reverted (changeOf e) (decisionsOf d))) q)
+    latest b q =
+        p .rest ∙ rw (past-latest es k h) (ap (λ (t : Bool). t && reversible o (past es (k - 1)) (reverted (changeOf e) (decisionsOf d))) q)
 
     module _ (can : Bool) (r : CanRevert o d e can) where
       pub reversing-stuck : can ≡ false → false ≡ reversible o (past es count) (decisionsOf start)
@@ -179,10 +189,12 @@ module _ (o : Outline) (start : Decisions) (es : List Event) (count : ℕ) where
         few = let f = p .few in omega arith;
         long = reverted-long (changeOf e) d (p .long);
         rest = latest true (sym (r .is) ∙ y)
-            ∙ alike-reversible o (past es (k - 1)) _ _ (alike-reverted-in d (p .long) (changeOf e) (change-low (e .kind) (e .field) (e .position) (r .low y .0)));
+            ∙ alike-reversible o (past es (k - 1)) _ _
+            (alike-reverted-in d (p .long) (changeOf e) (change-low (e .kind) (e .field) (e .position) (r .low y .0)));
       }
 
-  pub reversing-end : (d : Decisions) (k : ℕ) → k ≡ 0 → Reversing o start es count d k → true ≡ reversible o (past es count) (decisionsOf start)
+  pub reversing-end : (d : Decisions) (k : ℕ) → k ≡ 0 → Reversing o start es count d k
+      → true ≡ reversible o (past es count) (decisionsOf start)
   reversing-end d k z p = sym (p .rest ∙ rw z (unfold past reversible in refl))
 
 -- ---- all of it
@@ -192,7 +204,8 @@ module _ (o : Outline) (s : Session) (l : Long (s .decisions)) where
   unfolding malformed view
   ill-choices e = sym (rw (all-on o (s .decisions) l, sym e))
 
-  pub ill-strikes : true ≡ masksOnSheet (o .full) (s .decisions .choices) → false ≡ masksOnSheet (o .full) (s .decisions .strikes) → true ≡ malformed o (view s)
+  pub ill-strikes : true ≡ masksOnSheet (o .full) (s .decisions .choices)
+      → false ≡ masksOnSheet (o .full) (s .decisions .strikes) → true ≡ malformed o (view s)
   unfolding malformed view
   ill-strikes a e = sym (rw (all-on o (s .decisions) l, sym a, sym e))
 
@@ -201,6 +214,8 @@ module _ (o : Outline) (s : Session) (l : Long (s .decisions)) where
     unfolding malformed view
     ill-count h = sym (rw (all-on o (s .decisions) l, sym a, sym b, length-past (s .events) (s .count), lt-ltb mostEvents (s .count) h))
 
-    pub ill-events : (r : Bool) → s .count ≤ mostEvents → r ≡ reversible o (past (s .events) (s .count)) (decisionsOf (s .decisions)) → not r ≡ malformed o (view s)
+    pub ill-events : (r : Bool) → s .count ≤ mostEvents
+        → r ≡ reversible o (past (s .events) (s .count)) (decisionsOf (s .decisions)) → not r ≡ malformed o (view s)
     unfolding malformed view
-    ill-events r h e = rw (all-on o (s .decisions) l, sym a, sym b, length-past (s .events) (s .count), le-ltb mostEvents (s .count) h) (ap not e)
+    ill-events r h e =
+        rw (all-on o (s .decisions) l, sym a, sym b, length-past (s .events) (s .count), le-ltb mostEvents (s .count) h) (ap not e)

@@ -3,14 +3,14 @@ use mathlib.Core.Path.{_≡_, refl, sym, ap, ap₂, _∙_, fun-ext}
 use mathlib.Core.Logic.{_⊎_, inl, inr, ⊎-elim}
 use mathlib.Core.Bool.{Bool, true, false, not, _&&_, and-true, and-false}
 use mathlib.Core.List.{List}
-use Prim.Native.Nat.{ℕ, _-_, _^_, _≤_, _<_}
+use Prim.Native.Nat.{ℕ, _-_, _^_, _<_}
 use native.Mathlib.Omega.{arith}
 use lib.Bits.{bitAnd, and-le-r}
 use lib.Dec.{eqb}
 use lib.ListN.{getD}
-use borrow.Author.Tests.{eqb-true, eqb-false, eq-eqb, ne-eqb}
+use borrow.Author.Tests.{eq-eqb, ne-eqb}
 use Rattle.limits.specs.Limits.{mostFields}
-use Rattle.masks.specs.Tests.{never, not-so, bool-cases, eq-cases, and-l, and-r, and-by}
+use Rattle.masks.specs.Tests.{never, not-so, eq-cases, and-l, and-r, and-by}
 use Rattle.masks.specs.Bits.{bit, bit-of-zero, bit-ext, bit-nonzero, bit-some}
 use Rattle.masks.specs.Masks.{keepBits, bit-keepBits, keepBits-cong, someBit, someBit-at, someBit-by}
 use Rattle.masks.specs.Words.{bit-and, bit-and-not, clear, bit-clear, clear-other, Lowest}
@@ -52,7 +52,9 @@ module _ (all choices strikes : ℕ) (wide : all < 2 ^ 32) (small : strikes < 2 
       (x .0, chosen-by (x .0) (x .1) (and-l _ _ (x .2)), λ q. never (and-r (bit choices (x .0)) _ (x .2)) (ap not (eq-eqb (x .0) v q)))
 
   other-by : (v u : ℕ) → bit chosen u ≡ true → (u ≡ v → ⊥) → otherBit all choices v ≡ true
-  other-by v u b n = let c = chosen-at u b in someBit-by all (λ u. bit choices u && not (eqb u v)) u (c .1) (and-by _ _ (c .0) (ap not (ne-eqb u v n)))
+  other-by v u b n =
+      let c = chosen-at u b in
+      someBit-by all (λ u. bit choices u && not (eqb u v)) u (c .1) (and-by _ _ (c .0) (ap not (ne-eqb u v n)))
 
   start-bit : (v : ℕ) → bit (startMask all choices strikes) v ≡ (bit all v && startAt all choices strikes v)
   unfolding startMask
@@ -60,7 +62,8 @@ module _ (all choices strikes : ℕ) (wide : all < 2 ^ 32) (small : strikes < 2 
 
   -- no choice
   pub start-free : chosen ≡ 0 → bitAnd all (2 ^ 32 - 1 - strikes) ≡ startMask all choices strikes
-  start-free z = bit-ext _ _ (λ v. bit-and-not 32 all strikes v wide small ∙ sym (start-bit v ∙ rw (none v) (ap (λ (b : Bool). bit all v && b) (and-true (not (bit strikes v))))))
+  start-free z = bit-ext _ _ (λ v. bit-and-not 32 all strikes v wide small
+      ∙ sym (start-bit v ∙ rw (none v) (ap (λ (b : Bool). bit all v && b) (and-true (not (bit strikes v))))))
     where
       none : (v : ℕ) → otherBit all choices v ≡ false
       none v = not-so (otherBit all choices v) (λ e. let x = other-at v e in bit-nonzero chosen (x .0) (x .1) z)
@@ -85,18 +88,23 @@ module _ (all choices strikes : ℕ) (wide : all < 2 ^ 32) (small : strikes < 2 
             rw (here v q, b, chosen-at v b .1) (and-true (not (bit strikes v)))
         by v (inr q) =
             let n : bit chosen v ≡ false = not-so (bit chosen v) (λ e. q (only v e)) in
-            rw (other-by v w (lowest .set) (λ y. q (sym y)), n) (ap (λ (b : Bool). bit all v && b) (and-false (not (bit strikes v))) ∙ and-false (bit all v))
+            rw (other-by v w (lowest .set) (λ y. q (sym y)), n)
+            (ap (λ (b : Bool). bit all v && b) (and-false (not (bit strikes v))) ∙ and-false (bit all v))
 
     -- two or more
     pub start-none : (clear chosen w ≡ 0 → ⊥) → 0 ≡ startMask all choices strikes
-    start-none n = bit-ext _ _ (λ v. bit-of-zero v ∙ sym (start-bit v ∙ rw (some v) (ap (λ (b : Bool). bit all v && b) (and-false (not (bit strikes v))) ∙ and-false (bit all v))))
+    start-none n = bit-ext _ _ (λ v. bit-of-zero v
+        ∙ sym (start-bit v ∙ rw (some v) (ap (λ (b : Bool). bit all v && b) (and-false (not (bit strikes v))) ∙ and-false (bit all v))))
       where
         some : (v : ℕ) → otherBit all choices v ≡ true
         some v =
             let x = bit-some (clear chosen w) n in
             let c = sym (bit-clear chosen w (x .0)) ∙ x .1 in
-            ⊎-elim (λ (q : x .0 ≡ v). other-by v w (lowest .set) (λ y. never (and-r (bit chosen (x .0)) _ c) (ap not (eq-eqb (x .0) w (q ∙ sym y)))))
-            (λ q. other-by v (x .0) (and-l _ _ c) q) (eq-cases (x .0) v)
+            ⊎-elim
+            (λ (q : x .0 ≡ v).
+            other-by v w (lowest .set) (λ y. never (and-r (bit chosen (x .0)) _ c) (ap not (eq-eqb (x .0) w (q ∙ sym y)))))
+            (λ q. other-by v (x .0) (and-l _ _ c) q)
+            (eq-cases (x .0) v)
 
 -- ---- field after field
 
@@ -114,16 +122,21 @@ mask-is o d f = keepBits-cong (settings o f) _ _ (λ v. ap₂ (λ (a b : Bool). 
 abbrev pub maskFrom : (full choices strikes : List ℕ) → ℕ → ℕ
 maskFrom full choices strikes f = startMask (getD full f 0) (getD choices f 0) (getD strikes f 0)
 
-pub masks-are : (o : Outline) (d : Decisions) → tabulate mostFields (maskFrom (o .full) (d .choices) (d .strikes)) ≡ startMasks o (decisionsOf d)
+pub masks-are : (o : Outline) (d : Decisions)
+    → tabulate mostFields (maskFrom (o .full) (d .choices) (d .strikes)) ≡ startMasks o (decisionsOf d)
 unfolding startMasks
 masks-are o d = ap (tabulate mostFields) (fun-ext (mask-is o d))
 
-pub start-padded : (xs : List ℕ) → Accepted xs → (ds : List Decision) → startMasks (outlineOf xs) ds ≡ pad (mostFields - fieldsOf xs) (startSet (outlineOf xs) ds)
+pub start-padded : (xs : List ℕ) → Accepted xs → (ds : List Decision)
+    → startMasks (outlineOf xs) ds ≡ pad (mostFields - fieldsOf xs) (startSet (outlineOf xs) ds)
 unfolding startMasks startSet
-start-padded xs a ds = tabulate-pad mostFields (fieldsOf xs) (λ f. keepBits (settings (outlineOf xs) f) (starts (outlineOf xs) ds f)) (facts xs a .fields-few)
-    (λ f h. bit-ext _ 0 (λ v. bit-keepBits (settings (outlineOf xs) f) (starts (outlineOf xs) ds f) v
-    ∙ ap (λ (m : ℕ). bit m v && starts (outlineOf xs) ds f v) (full-past xs f h) ∙ rw (bit-of-zero v))) ∙ same
+start-padded xs a ds =
+    let o = outlineOf xs in
+    tabulate-pad mostFields (fieldsOf xs) (λ f. keepBits (settings o f) (starts o ds f)) (facts xs a .fields-few)
+    (λ f h. bit-ext _ 0 (λ v. bit-keepBits (settings o f) (starts o ds f) v
+    ∙ ap (λ (m : ℕ). bit m v && starts o ds f v) (full-past xs f h) ∙ rw (bit-of-zero v))) ∙ same
   where
     same : pad (mostFields - fieldsOf xs) (tabulate (fieldsOf xs) (λ f. keepBits (settings (outlineOf xs) f) (starts (outlineOf xs) ds f)))
-        ≡ pad (mostFields - fieldsOf xs) (tabulate (outlineOf xs .fields) (λ f. keepBits (settings (outlineOf xs) f) (starts (outlineOf xs) ds f)))
+        ≡ pad (mostFields - fieldsOf xs)
+        (tabulate (outlineOf xs .fields) (λ f. keepBits (settings (outlineOf xs) f) (starts (outlineOf xs) ds f)))
     same = unfold outlineOf in refl

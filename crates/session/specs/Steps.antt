@@ -1,10 +1,10 @@
 -- The session after a call that is accepted, and that it shows the ledger's step. Assumes nothing.
-use mathlib.Core.Path.{_≡_, refl, sym, ap, _∙_}
-use mathlib.Core.List.{[], _∷_}
-use Prim.Native.Nat.{ℕ, _+_, _-_, _≤_, _<_}
+use mathlib.Core.Path.{_≡_, refl, sym, _∙_}
+use mathlib.Core.List.{[]}
+use Prim.Native.Nat.{_+_, _-_, _≤_, _<_}
 use native.Mathlib.Numerals.{add-one}
 use native.Mathlib.Omega.{arith}
-use lib.ListN.{length, getD, set, replicate, length-set, length-replicate}
+use lib.ListN.{getD, set, replicate}
 use Rattle.limits.specs.Limits.{mostFields, mostEvents}
 use Rattle.masks.specs.Bits.{bit-of-zero}
 use Rattle.masks.specs.Sets.{has, getD-zeros}
@@ -15,7 +15,7 @@ use Rattle.ledger.specs.Ledger.{Decision, choice, strike, changeOf, inForce, ba
 use Rattle.ledger.specs.Laws.{SameLedger, same-ledger}
 use Rattle.session.specs.declared.Session.{Session}
 use Rattle.session.specs.declared.decisions.Decisions.{Decisions}
-use Rattle.session.specs.Decisions.{heldIn, appliedIn, revertedIn, applied-long, reverted-long, change-low}
+use Rattle.session.specs.Decisions.{heldIn, appliedIn, revertedIn, change-low}
 use Rattle.session.specs.View.{decisionsOf, inForce-of, noEvent, past, past-push, past-latest, view, withDecisions, withEvents, Sized}
 use Rattle.session.specs.Form.{alike-applied-in, alike-reverted-in}
 
@@ -76,14 +76,18 @@ module _ (s : Session) (z : Sized s) where
   record-same : (e : Event) → RecordAsks e s → SameLedger (view (recorded s e)) (step (Decide e) (view s))
   unfolding view step
   record-same e a = record {
-    held = λ d. sym (alike-applied-in (s .decisions) (z .decisions) (changeOf e) (change-low (e .kind) (e .field) (e .position) (a .field)) d);
+    held = λ d.
+        let low = change-low (e .kind) (e .field) (e .position) (a .field) in
+        sym (alike-applied-in (s .decisions) (z .decisions) (changeOf e) low d);
     past = rw (add-one (s .count)) (past-push (s .events) (s .count) e (let r = a .room in let n = z .events in omega arith));
   }
 
   undo-same : UndoAsks s → SameLedger (view (undone s)) (backed (past (s .events) (s .count)) (decisionsOf (s .decisions)))
   unfolding view backed
   undo-same a = let e = latest s in rw (past-latest (s .events) (s .count) (a .some)) (record {
-    held = λ d. sym (alike-reverted-in (s .decisions) (z .decisions) (changeOf e) (change-low (e .kind) (e .field) (e .position) (a .field)) d);
+    held = λ d.
+        let low = change-low (e .kind) (e .field) (e .position) (a .field) in
+        sym (alike-reverted-in (s .decisions) (z .decisions) (changeOf e) low d);
     past = refl;
   })
 
@@ -99,16 +103,3 @@ module _ (s : Session) (z : Sized s) where
   view-step (Decide e) a = unfold stepped in record-same e a
   view-step Back a = unfold stepped step view in undo-same a
   view-step CoilOn a = unfold stepped step view in (record { held = λ d. refl; past = unfold past in refl })
-
--- ---- it keeps the lengths
-
-pub stepped-sized : (c : Call) (s : Session) → Sized s → Sized (stepped c s)
-unfolding stepped
-stepped-sized Open s z = record {
-  decisions = record { choices = length-replicate {A = ℕ} mostFields 0; strikes = length-replicate {A = ℕ} mostFields 0 };
-  events = z .events;
-}
-stepped-sized Show s z = z
-stepped-sized (Decide e) s z = record { decisions = applied-long (changeOf e) (s .decisions) (z .decisions); events = length-set (s .events) (s .count) e ∙ z .events }
-stepped-sized Back s z = record { decisions = reverted-long (changeOf (latest s)) (s .decisions) (z .decisions); events = z .events }
-stepped-sized CoilOn s z = record { decisions = z .decisions; events = z .events }

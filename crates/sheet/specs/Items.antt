@@ -32,7 +32,8 @@ items-enough (suc f) g s at p q = go (λ next. items-enough f (g - 1) s next) (l
     by : (r : Number) → at < length s → numberAt s at ≡ r
         → ((next : ℕ) → length s - next ≤ f → length s - next ≤ g - 1 → items f s next ≡ items (g - 1) s next)
         → itemsBy r (items f s) ≡ itemsBy r (items (g - 1) s)
-    by (Value x next) h e ih = let b = number-next s at x next h e in ap (λ (is : List Item). num x ∷ is) (ih next (omega arith) (omega arith))
+    by (Value x next) h e ih =
+        let b = number-next s at x next h e in ap (λ (is : List Item). num x ∷ is) (ih next (omega arith) (omega arith))
     by Ended h e ih = refl
     by IllFormed h e ih = refl
 

@@ -18,7 +18,8 @@ use Rattle.grammar.specs.declared.grammar.Expected.{Expected}
 use Rattle.grammar.specs.declared.grammar.Expected.the-variants.{Fields, Count, Setting, Reach, Rules, First, Second, Kind, Mask, Amount}
 use Rattle.grammar.specs.declared.grammar.State.{State}
 use Rattle.grammar.specs.declared.grammar.State.the-variants.{Wants}
-use Rattle.sheet.specs.Sources.{Item, num, cut, ill, meets, refusalFrom, refusal, numbers, ofNumbers, bytesOf, answered, checked, Produced, produced, refusing, giving, Gives}
+use Rattle.sheet.specs.Sources.{Item, num, cut, ill, meets, refusalFrom, refusal, numbers, ofNumbers, bytesOf, answered, checked}
+use Rattle.sheet.specs.Sources.{Produced, produced, refusing, giving, Gives}
 use Rattle.sheet.specs.declared.answer.Answer.{Answer}
 
 -- ---- a turn
@@ -30,7 +31,8 @@ pub record Going (st : State) (ds : List ℕ) (is all : List Item) (count : ℕ)
 
 module _ {st : State} {ds : List ℕ} {is all : List Item} {count : ℕ} {rest values : List ℕ} where
   -- a number that is expected
-  pub going-on : (n : ℕ) (e : Expected) (x : ℕ) (js : List Item) (part rest′ : List ℕ) → st ≡ Wants n e → is ≡ num x ∷ js → rest ≡ part ++ rest′
+  pub going-on : (n : ℕ) (e : Expected) (x : ℕ) (js : List Item) (part rest′ : List ℕ) → st ≡ Wants n e → is ≡ num x ∷ js
+      → rest ≡ part ++ rest′
       → Going st ds is all count rest values → Going (advance n e ds x .0) (advance n e ds x .1) js all (count + length part) rest′ values
   unfolding refusalFrom
   going-on n e x js part rest′ p q r g = record {
@@ -60,7 +62,8 @@ stays st ds k (cut ∷ is) h p = h _
 stays st ds k (ill ∷ is) h p = h _
 
 -- such a state's refusal, where an item follows
-pub going-stays : {st : State} {ds : List ℕ} {is all : List Item} {count : ℕ} {rest values : List ℕ} (k : ℕ) → 0 < k → ((f : ℕ → Expected → ℕ) → meets st f ≡ k)
+pub going-stays : {st : State} {ds : List ℕ} {is all : List Item} {count : ℕ} {rest values : List ℕ} (k : ℕ) → 0 < k
+    → ((f : ℕ → Expected → ℕ) → meets st f ≡ k)
     → 0 < length is → Going st ds is all count rest values → answered k 0 ≡ checked all values
 going-stays {st = st} {ds = ds} {is = is} k h e p g = going-refused k h (stays st ds k is e (λ z. absurd (omega (arith, z, p)))) g
 
@@ -108,22 +111,27 @@ module _ (is : List Item) (values before : List ℕ) (a : Answer) (e : a ≡ che
 
   gives : (o : Produced) (r : Answer) (after : List ℕ) → produced (refusal is) values before ≡ o → r ≡ o .answer → after ≡ o .output
       → Gives (produced (refusal is) values before) r after
-  gives o r after q p s = record { answers = p ∙ ap (λ (x : Produced). x .answer) (sym q); outputs = s ∙ ap (λ (x : Produced). x .output) (sym q) }
+  gives o r after q p s =
+      record { answers = p ∙ ap (λ (x : Produced). x .answer) (sym q); outputs = s ∙ ap (λ (x : Produced). x .output) (sym q) }
 
   pub gives-refused : (a .number ≡ 0 → ⊥) → Gives (produced (refusal is) values before) a before
   gives-refused h =
       let z : eqb (refusal is) 0 ≡ false = ne-eqb _ 0 (λ q. h (number-is ∙ q)) in
-      gives (refusing (refusal is) before) a before (pick-false _ _ _ z) (e ∙ ap (λ (l : ℕ). record { number = refusal is; length = l }) (pick-false _ _ _ z ∙ sym (pick-false _ 0 0 z))) refl
+      gives (refusing (refusal is) before) a before (pick-false _ _ _ z)
+      (e ∙ ap (λ (l : ℕ). record { number = refusal is; length = l }) (pick-false _ _ _ z ∙ sym (pick-false _ 0 0 z))) refl
 
-  pub gives-short : (r : Answer) → a .number ≡ 0 → length before < a .length → r ≡ answered TOO-SHORT 0 → Gives (produced (refusal is) values before) r before
+  pub gives-short : (r : Answer) → a .number ≡ 0 → length before < a .length → r ≡ answered TOO-SHORT 0
+      → Gives (produced (refusal is) values before) r before
   gives-short r z h q =
       gives (refusing TOO-SHORT before) r before
-      (pick-true _ _ _ (eq-eqb _ 0 (sym number-is ∙ z)) ∙ pick-false _ _ _ (lt-leb (length values) (length before) (rw (length-is z) at h))) q refl
+      (pick-true _ _ _ (eq-eqb _ 0 (sym number-is ∙ z)) ∙ pick-false _ _ _ (lt-leb (length values) (length before) (rw (length-is z) at h)))
+      q refl
 
   pub gives-room : a .number ≡ 0 → a .length ≤ length before → length values ≤ length before
   gives-room z h = rw (length-is z) at h
 
-  pub gives-values : (after : List ℕ) → a .number ≡ 0 → a .length ≤ length before → after ≡ sets before 0 values → Gives (produced (refusal is) values before) a after
+  pub gives-values : (after : List ℕ) → a .number ≡ 0 → a .length ≤ length before → after ≡ sets before 0 values
+      → Gives (produced (refusal is) values before) a after
   gives-values after z h q =
       let v : refusal is ≡ 0 = sym number-is ∙ z in
       gives (giving values before) a after

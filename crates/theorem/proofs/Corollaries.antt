@@ -18,7 +18,7 @@ use Rattle.ledger.specs.Laws.{SameLedger, alike-offers}
 use Rattle.ledger.specs.Sound.{opened-formed, after-formed, never-15}
 use Rattle.ledger.specs.Theorems.{back-undoes, Admitted, lending, engine-and-order}
 use Rattle.session.specs.declared.Session.{Session}
-use Rattle.session.specs.View.{view, Sized}
+use Rattle.session.specs.View.{view}
 use Rattle.answering.specs.Answer.{CallResult, refused, accepted, result}
 use Rattle.theorem.specs.Turns.{Turn, Answered}
 use Rattle.theorem.specs.Follows.{givenTo, numbersOf, fields, next, Agrees, Follows, ends, goes}
@@ -30,15 +30,21 @@ pub data None15 : List Turn → Type 0 where
   ends-so : None15 []
   goes-so : {t : Turn} {ts : List Turn} → (t .number ≡ MALFORMED → ⊥) → None15 ts → None15 (t ∷ ts)
 
-quiet : (sheet : List ℕ) (s : Session) (ts : List Turn) → Calls sheet s ts → (l : Ledger) → malformed (outlineOf (numbers (ofBytes sheet))) l ≡ false → Follows l ts → None15 ts
+abbrev formed : List ℕ → Ledger → Type 0
+formed sheet l = malformed (outlineOf (numbers (ofBytes sheet))) l ≡ false
+
+quiet : (sheet : List ℕ) (s : Session) (ts : List Turn) → Calls sheet s ts → (l : Ledger) → formed sheet l → Follows l ts → None15 ts
 quiet sheet s [] none-yet l f ends = ends-so
 quiet sheet s (t ∷ ts) (then e m cs) l f (goes a rest) =
-    let h : malformed (outlineOf (numbers (ofBytes (t .sheet)))) l ≡ false = ap (λ (x : List ℕ). malformed (outlineOf (numbers (ofBytes x))) l) e ∙ f in
-    goes-so (λ q. never-15 (givenTo t) l (t .call) h (sym (a .numbered) ∙ q))
-    (quiet sheet (t .session′) ts cs (next l t) (ap (λ (x : List ℕ). malformed (outlineOf (numbers (ofBytes x))) (next l t)) (sym e) ∙ after-formed (givenTo t) l (t .call) h) rest)
+    let h : formed (t .sheet) l = ap (λ (x : List ℕ). malformed (outlineOf (numbers (ofBytes x))) l) e ∙ f in
+    let k : formed sheet (next l t) =
+    ap (λ (x : List ℕ). malformed (outlineOf (numbers (ofBytes x))) (next l t)) (sym e) ∙ after-formed (givenTo t) l (t .call) h in
+    goes-so (λ q. never-15 (givenTo t) l (t .call) h (sym (a .numbered) ∙ q)) (quiet sheet (t .session′) ts cs (next l t) k rest)
 
-pub no-15 : (sheet : List ℕ) (s : Session) (t : Turn) (ts : List Turn) → Sized s → t .call ≡ Call.Open → Calls sheet s (t ∷ ts) → number (givenTo t) (t .call) opened ≡ 0 → None15 (t ∷ ts)
-no-15 sheet s t ts z o cs k = quiet sheet s (t ∷ ts) cs opened (opened-formed (outlineOf (numbers (ofBytes sheet)))) (demand-3 sheet s t ts z o cs opened k)
+pub no-15 : (sheet : List ℕ) (s : Session) (t : Turn) (ts : List Turn) → t .call ≡ Call.Open → Calls sheet s (t ∷ ts)
+    → number (givenTo t) (t .call) opened ≡ 0 → None15 (t ∷ ts)
+no-15 sheet s t ts o cs k =
+    quiet sheet s (t ∷ ts) cs opened (opened-formed (outlineOf (numbers (ofBytes sheet)))) (demand-3 sheet s t ts o cs opened k)
 
 -- ---- engine, order and what the work spaces hold alter nothing
 
@@ -57,26 +63,33 @@ pageOf t = record { number = t .number; session = t .session′; offers = t .lef
 -- the number of a result is the ledger's on what the session shows
 result-number : (g : Given) (c : Call) (s : Session) (before : List ℕ) → result g c s before .number ≡ number g c (view s)
 unfolding result
-result-number g c s before = go (eqb (number g c (view s)) 0) refl
+result-number g c s before = go (number g c (view s)) (eqb (number g c (view s)) 0) refl
   where
-    go : (b : Bool) → eqb (number g c (view s)) 0 ≡ b → pick b (accepted (numbers (ofBytes (g .sheet))) c s before) (refused (number g c (view s)) s before) .number ≡ number g c (view s)
-    go true e = unfold pick in sym (eqb-true _ 0 e)
-    go false e = unfold pick in refl
+    go : (k : ℕ) (b : Bool) → eqb k 0 ≡ b → pick b (accepted (numbers (ofBytes (g .sheet))) c s before) (refused k s before) .number ≡ k
+    go k true e = unfold pick in sym (eqb-true k 0 e)
+    go k false e = unfold pick in refl
 
 -- a result depends on what is given by its number and its sheet alone
-result-by : (g h : Given) (c : Call) (s : Session) (before : List ℕ) → number g c (view s) ≡ number h c (view s) → g .sheet ≡ h .sheet → result g c s before ≡ result h c s before
+result-by : (g h : Given) (c : Call) (s : Session) (before : List ℕ) → number g c (view s) ≡ number h c (view s) → g .sheet ≡ h .sheet
+    → result g c s before ≡ result h c s before
 unfolding result
 result-by g h c s before k e = rw (k, e)
 
 pub engine-order-spaces : (t u : Turn) → Answered t → Answered u → SameBut t u → Admitted (t .number) → Admitted (u .number)
     → pageOf t ≡ pageOf u
 engine-order-spaces t u a b s p q =
-    let e : givenTo u ≡ lending (givenTo t) (u .engine) (u .order) = rw (s .sheet, s .offers, s .rows, s .memory) in
-    let x : t .number ≡ number (givenTo t) (t .call) (view (t .session)) = ap (λ (r : CallResult). r .number) (a .answers) ∙ result-number (givenTo t) (t .call) (t .session) (t .lent .offers) in
-    let y : u .number ≡ number (lending (givenTo t) (u .engine) (u .order)) (t .call) (view (t .session)) =
-    ap (λ (r : CallResult). r .number) (b .answers) ∙ result-number (givenTo u) (u .call) (u .session) (u .lent .offers) ∙ rw (e, s .call, s .session) in
-    let k = engine-and-order (givenTo t) (u .engine) (u .order) (t .call) (view (t .session)) (rw x at p) (rw y at q) in
-    a .answers ∙ result-by (givenTo t) (lending (givenTo t) (u .engine) (u .order)) (t .call) (t .session) (t .lent .offers) k refl ∙ sym (b .answers ∙ rw (e, s .call, s .session, s .offers))
+    let g = givenTo t in
+    let h = lending g (u .engine) (u .order) in
+    let v = view (t .session) in
+    let e : givenTo u ≡ h = rw (s .sheet, s .offers, s .rows, s .memory) in
+    let x : t .number ≡ number g (t .call) v =
+    ap (λ (r : CallResult). r .number) (a .answers) ∙ result-number g (t .call) (t .session) (t .lent .offers) in
+    let y : u .number ≡ number h (t .call) v =
+    ap (λ (r : CallResult). r .number) (b .answers) ∙ result-number (givenTo u) (u .call) (u .session) (u .lent .offers)
+    ∙ rw (e, s .call, s .session) in
+    let k = engine-and-order g (u .engine) (u .order) (t .call) v (rw x at p) (rw y at q) in
+    a .answers ∙ result-by g h (t .call) (t .session) (t .lent .offers) k refl
+    ∙ sym (b .answers ∙ rw (e, s .call, s .session, s .offers))
 
 -- ---- back after a change shows the page before it
 
@@ -85,7 +98,8 @@ next-is-step : (l : Ledger) (t : Turn) → Agrees l t → t .number ≡ 0 → ne
 unfolding after
 next-is-step l t a n = pick-true _ _ _ (eq-eqb _ 0 (sym (a .numbered) ∙ n))
 
-pub back-shows-again : (l : Ledger) (t u : Turn) → Agrees l t → Agrees (next l t) u → (e : Event) → t .call ≡ Call.Decide e → u .call ≡ Call.Back → t .number ≡ 0 → u .number ≡ 0
+pub back-shows-again : (l : Ledger) (t u : Turn) → Agrees l t → Agrees (next l t) u
+    → (e : Event) → t .call ≡ Call.Decide e → u .call ≡ Call.Back → t .number ≡ 0 → u .number ≡ 0
     → SameLedger (next (next l t) u) l × (take (fields u) (u .left .offers) ≡ offersOf (numbersOf u) l)
 back-shows-again l t u a b e c o n m =
     let q : next (next l t) u ≡ step Call.Back (step (Call.Decide e) l) = next-is-step (next l t) u b m ∙ rw (o, next-is-step l t a n, c) in

@@ -1,4 +1,5 @@
 pub mod Inner
 pub mod Outer
+pub mod RoundTrips
 pub mod Sequence
 pub mod Corollaries

@@ -1,6 +1,6 @@
--- DEMAND 3: every sequence of the eight calls with one sheet, refused calls included, that an `open` which is not refused begins, goes as the
--- ledger says, whatever the session held before and whatever decision, engine, order and spaces each call is given. A call is known by its own
--- contract alone (`Inner`, `Outer`); some may take the session by value and some by reference.
+-- DEMAND 3: every sequence of the eight calls with one sheet, refused calls included, that an `open` which is not refused begins, goes as
+-- the ledger says, whatever the session held before and whatever decision, engine, order and spaces each call is given. A call is known by
+-- its own contract alone (`Inner`, `Outer`); some may take the session by value and some by reference.
 use mathlib.Core.Path.{_≡_, refl, sym, ap, _∙_}
 use mathlib.Core.List.{List, [], _∷_}
 use Prim.Native.Nat.{ℕ}
@@ -10,7 +10,7 @@ use Rattle.ledger.specs.declared.Call.{Call}
 use Rattle.ledger.specs.Ledger.{Ledger, Given, inForce, offersOf, step, number, causes, judged, after}
 use Rattle.ledger.specs.Laws.{SameLedger, same-ledger}
 use Rattle.session.specs.declared.Session.{Session}
-use Rattle.session.specs.View.{view, Sized}
+use Rattle.session.specs.View.{view}
 use Rattle.theorem.specs.Turns.{Turn, Answered}
 use Rattle.theorem.specs.Follows.{givenTo, numbersOf, next, Agrees, Follows, ends, goes}
 use Rattle.theorem.specs.CallAgrees.{call-agrees}
@@ -29,12 +29,14 @@ answered (by-reference m) = outer.answered m
 -- calls with one sheet, each given the session as the one before left it
 pub data Calls (sheet : List ℕ) : Session → List Turn → Type 0 where
   none-yet : {s : Session} → Calls sheet s []
-  then : {t : Turn} {ts : List Turn} → t .sheet ≡ sheet → Called t → Calls sheet (t .session′) ts → Calls sheet (t .session) (t ∷ ts)
+  then : {t : Turn} {ts : List Turn} → t .sheet ≡ sheet → Called t → Calls sheet (t .session′) ts
+      → Calls sheet (t .session) (t ∷ ts)
 
 -- from a session that shows a ledger on
-pub follows : (sheet : List ℕ) (s : Session) (ts : List Turn) → Calls sheet s ts → Sized s → (l : Ledger) → SameLedger (view s) l → Follows l ts
-follows sheet s [] none-yet z l a = ends
-follows sheet s (t ∷ ts) (then e m cs) z l a = let w = call-agrees l t z a (answered m) in goes (w .0) (follows sheet (t .session′) ts cs (w .2) (next l t) (w .1))
+pub follows : (sheet : List ℕ) (s : Session) (ts : List Turn) → Calls sheet s ts → (l : Ledger) → SameLedger (view s) l → Follows l ts
+follows sheet s [] none-yet l a = ends
+follows sheet s (t ∷ ts) (then e m cs) l a =
+    let w = call-agrees l t a (answered m) in goes (w .0) (follows sheet (t .session′) ts cs (next l t) (w .1))
 
 -- The number of an `open` does not depend on what came before it, and neither does the ledger after one that is accepted.
 module _ (g : Given) (c : Call) (o : c ≡ Call.Open) (l m : Ledger) where
@@ -42,17 +44,21 @@ module _ (g : Given) (c : Call) (o : c ≡ Call.Open) (l m : Ledger) where
   open-number = rw o (unfold number causes judged step in refl)
 
   open-after : number g c l ≡ 0 → after g c l ≡ after g c m
-  open-after e = unfold after in (pick-true _ _ _ (eq-eqb _ 0 e) ∙ rw o (unfold step in refl) ∙ sym (pick-true _ _ _ (eq-eqb _ 0 (sym open-number ∙ e))))
+  open-after e =
+      unfold after in (pick-true _ _ _ (eq-eqb _ 0 e) ∙ rw o (unfold step in refl)
+      ∙ sym (pick-true _ _ _ (eq-eqb _ 0 (sym open-number ∙ e))))
 
 -- the first call: whatever the session and whatever the ledger held
-opened : (t : Turn) → t .call ≡ Call.Open → Sized (t .session) → Answered t → (l : Ledger) → number (givenTo t) (t .call) l ≡ 0 → Agrees l t × SameLedger (view (t .session′)) (next l t) × Sized (t .session′)
-opened t o z m l k =
-    let w = call-agrees (view (t .session)) t z (same-ledger (view (t .session))) m in
+opened : (t : Turn) → t .call ≡ Call.Open → Answered t → (l : Ledger) → number (givenTo t) (t .call) l ≡ 0
+    → Agrees l t × SameLedger (view (t .session′)) (next l t)
+opened t o m l k =
+    let v = view (t .session) in
+    let w = call-agrees v t (same-ledger v) m in
     let a = w .0 in
-    let n : t .number ≡ 0 = a .numbered ∙ open-number (givenTo t) (t .call) o (view (t .session)) l ∙ k in
-    let e : next (view (t .session)) t ≡ next l t = open-after (givenTo t) (t .call) o (view (t .session)) l (sym (a .numbered) ∙ n) in (
+    let n : t .number ≡ 0 = a .numbered ∙ open-number (givenTo t) (t .call) o v l ∙ k in
+    let e : next v t ≡ next l t = open-after (givenTo t) (t .call) o v l (sym (a .numbered) ∙ n) in (
       record {
-        numbered = a .numbered ∙ open-number (givenTo t) (t .call) o (view (t .session)) l;
+        numbered = a .numbered ∙ open-number (givenTo t) (t .call) o v l;
         decided = λ d. a .decided d ∙ ap (λ (x : Ledger). inForce (x .decisions) d) e;
         happened = a .happened ∙ ap (λ (x : Ledger). x .events) e;
         shown = λ y. a .shown y ∙ ap (λ (x : Ledger). offersOf (numbersOf t) x) e;
@@ -60,9 +66,10 @@ opened t o z m l k =
         kept = a .kept;
       },
       rw e at (w .1),
-      w .2,
     )
 
 -- THE THEOREM
-pub demand-3 : (sheet : List ℕ) (s : Session) (t : Turn) (ts : List Turn) → Sized s → t .call ≡ Call.Open → Calls sheet s (t ∷ ts) → (l : Ledger) → number (givenTo t) (t .call) l ≡ 0 → Follows l (t ∷ ts)
-demand-3 sheet s t ts z o (then e m cs) l k = let w = opened t o z (answered m) l k in goes (w .0) (follows sheet (t .session′) ts cs (w .2) (next l t) (w .1))
+pub demand-3 : (sheet : List ℕ) (s : Session) (t : Turn) (ts : List Turn) → t .call ≡ Call.Open → Calls sheet s (t ∷ ts)
+    → (l : Ledger) → number (givenTo t) (t .call) l ≡ 0 → Follows l (t ∷ ts)
+demand-3 sheet s t ts o (then e m cs) l k =
+    let w = opened t o (answered m) l k in goes (w .0) (follows sheet (t .session′) ts cs (next l t) (w .1))

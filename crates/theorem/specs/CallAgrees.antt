@@ -14,15 +14,15 @@ use Rattle.ledger.specs.Laws.{SameLedger, same-then, step-same, alike-offers, n
 use Rattle.ledger.specs.Judging.{sheet-accepted, none-applies}
 use Rattle.session.specs.declared.Session.{Session}
 use Rattle.session.specs.Decisions.{heldIn}
-use Rattle.session.specs.View.{past, view, inForce-of, Sized}
-use Rattle.session.specs.Steps.{stepped, stepped-sized}
+use Rattle.session.specs.View.{past, view, inForce-of}
+use Rattle.session.specs.Steps.{stepped}
 use Rattle.answering.specs.TakesStep.{shows-step}
 use Rattle.answering.specs.Settle.{offers-sized}
 use Rattle.answering.specs.Answer.{CallResult, refused, accepted, result}
 use Rattle.theorem.specs.Turns.{Turn, Answered}
 use Rattle.theorem.specs.Follows.{givenTo, numbersOf, fields, next, Agrees}
 
-module _ (l : Ledger) (t : Turn) (z : Sized (t .session)) (same : SameLedger (view (t .session)) l) (said : Answered t) where
+module _ (l : Ledger) (t : Turn) (same : SameLedger (view (t .session)) l) (said : Answered t) where
   abbrev g : Given
   g = givenTo t
 
@@ -33,17 +33,22 @@ module _ (l : Ledger) (t : Turn) (z : Sized (t .session)) (same : SameLedger (vi
   ledgers = number-same g (t .call) (view (t .session)) l same
 
   abbrev pub CallAgrees : Type 0
-  CallAgrees = Agrees l t × SameLedger (view (t .session′)) (next l t) × Sized (t .session′)
+  CallAgrees = Agrees l t × SameLedger (view (t .session′)) (next l t)
+
+  -- number, session and offers list after the call
+  abbrev gave : CallResult
+  gave = record { number = t .number; session = t .session′; offers = t .left .offers }
 
   -- what a session shows, piece by piece
-  shows : (s : Session) (m : Ledger) → SameLedger (view s) m → ((d : Decision) → heldIn (s .decisions) d ≡ inForce (m .decisions) d) × (past (s .events) (s .count) ≡ m .events)
+  shows : (s : Session) (m : Ledger) → SameLedger (view s) m
+      → ((d : Decision) → heldIn (s .decisions) d ≡ inForce (m .decisions) d) × (past (s .events) (s .count) ≡ m .events)
   unfolding view
   shows s m a = (λ d. sym (inForce-of (s .decisions) d) ∙ a .held d, a .past)
 
   was-refused : eqb k 0 ≡ false → CallAgrees
   unfolding result after
   was-refused e =
-      let q : record { number = t .number; session = t .session′; offers = t .left .offers } ≡ refused k (t .session) (t .lent .offers) = said .answers ∙ pick-false _ _ _ e in
+      let q : gave ≡ refused k (t .session) (t .lent .offers) = said .answers ∙ pick-false _ _ _ e in
       let n : t .number ≡ k = ap (λ (a : CallResult). a .number) q in
       let s : t .session′ ≡ t .session = ap (λ (a : CallResult). a .session) q in
       let o : t .left .offers ≡ t .lent .offers = ap (λ (a : CallResult). a .offers) q in
@@ -59,7 +64,6 @@ module _ (l : Ledger) (t : Turn) (z : Sized (t .session)) (same : SameLedger (vi
           kept = λ _. o;
         },
         a,
-        rw s z,
       )
 
   was-accepted : eqb k 0 ≡ true → CallAgrees
@@ -68,11 +72,11 @@ module _ (l : Ledger) (t : Turn) (z : Sized (t .session)) (same : SameLedger (vi
       let y = eqb-true k 0 e in
       let v = none-applies g (t .call) (view (t .session)) y in
       let r = sheet-accepted g (t .call) (view (t .session)) y in
-      let q : record { number = t .number; session = t .session′; offers = t .left .offers } ≡ accepted (numbersOf t) (t .call) (t .session) (t .lent .offers) = said .answers ∙ pick-true _ _ _ e in
+      let q : gave ≡ accepted (numbersOf t) (t .call) (t .session) (t .lent .offers) = said .answers ∙ pick-true _ _ _ e in
       let n : t .number ≡ 0 = ap (λ (a : CallResult). a .number) q in
       let s : t .session′ ≡ stepped (t .call) (t .session) = ap (λ (a : CallResult). a .session) q in
       let m : next l t ≡ step (t .call) l = pick-true _ _ _ (ap (λ (x : ℕ). eqb x 0) (sym ledgers) ∙ e) in
-      let b = shows-step (numbersOf t) (bytes-accepted (t .sheet) r) (t .engine) (t .order) (t .session) (t .call) z v in
+      let b = shows-step (numbersOf t) (bytes-accepted (t .sheet) r) (t .engine) (t .order) (t .session) (t .call) (said .sized) v in
       let i = step-same (t .call) (view (t .session)) l same in
       let a : SameLedger (view (t .session′)) (next l t) = rw (s, m) (same-then b i) in
       let h = shows (t .session′) (next l t) a in
@@ -80,17 +84,18 @@ module _ (l : Ledger) (t : Turn) (z : Sized (t .session)) (same : SameLedger (vi
       rw m (alike-offers (step (t .call) (view (t .session))) (step (t .call) l) (numbersOf t) (i .held)) in
       let w : t .left .offers ≡ offersOf (numbersOf t) (next l t) ++ drop (length (offersOf (numbersOf t) (next l t))) (t .lent .offers) =
       ap (λ (a : CallResult). a .offers) q ∙ ap (λ (ms : List ℕ). ms ++ drop (length ms) (t .lent .offers)) f in
-      let j : length (offersOf (numbersOf t) (next l t)) ≡ fields t = offers-sized (numbersOf t) (bytes-accepted (t .sheet) r) (next l t) in (
+      let j : length (offersOf (numbersOf t) (next l t)) ≡ fields t =
+      offers-sized (numbersOf t) (bytes-accepted (t .sheet) r) (next l t) in (
         record {
           numbered = n ∙ sym (sym ledgers ∙ y);
           decided = h .0;
           happened = h .1;
           shown = λ _. rw w (take-at _ _ (fields t) j);
-          untouched = λ _. ap (drop (fields t)) w ∙ drop-at (offersOf (numbersOf t) (next l t)) _ (fields t) j ∙ ap (λ (x : ℕ). drop x (t .lent .offers)) j;
+          untouched = λ _. ap (drop (fields t)) w ∙ drop-at (offersOf (numbersOf t) (next l t)) _ (fields t) j
+              ∙ ap (λ (x : ℕ). drop x (t .lent .offers)) j;
           kept = λ x. absurd (x n);
         },
         a,
-        rw s (stepped-sized (t .call) (t .session) z),
       )
 
   pub call-agrees : CallAgrees

@@ -1,3 +1,4 @@
 pub mod Turns
 pub mod Follows
 pub mod CallAgrees
+pub mod EveryCall

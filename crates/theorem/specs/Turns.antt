@@ -23,7 +23,8 @@ abbrev pub Answered : Turn → Type 0
 Answered t = Answers (t .call) (t .session) (t .sheet) (t .engine) (t .order) (t .lent) (t .number) (t .session′) (t .left)
 
 -- ---- a turn, of the parameters as a contract has them at entry and at exit
-abbrev turn : (ks : List Kind) → (Session → AtEntry ks (ℕ → Session → AtExit ks Turn)) → Session → Passed ks → ℕ → Session → Passed ks → Turn
+abbrev turn : (ks : List Kind) → (Session → AtEntry ks (ℕ → Session → AtExit ks Turn))
+    → Session → Passed ks → ℕ → Session → Passed ks → Turn
 turn ks t s x n s′ y = leaving ks (entering ks (t s) x n s′) y
 
 abbrev pub turnOf : Call → Session → (sheet : List ℕ) (engine : ℕ) (order offers rows memory : List ℕ)

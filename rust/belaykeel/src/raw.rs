@@ -25,9 +25,10 @@ pub struct Arguments<'a> {
     pub order: &'a [u8],
     /// An accepted call writes the n masks to its front.
     pub offers: &'a mut [u32],
-    /// The first work space.
+    /// The first work space. What it holds before the call affects no answer; afterwards it may hold anything, and is as it was where 6
+    /// refuses.
     pub rows: &'a mut [u32],
-    /// The second work space.
+    /// The second work space, as the first.
     pub memory: &'a mut [u32],
 }
 

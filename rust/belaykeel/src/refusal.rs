@@ -5,7 +5,8 @@ use std::fmt;
 /// Defines the refusals from a table of numbers, names and sentences.
 macro_rules! refusals {
     ($($number:literal $name:ident $sentence:literal)*) => {
-        /// The cause of a refusal, by the scope paper's number. A refused call leaves session, offers and output as they were.
+        /// The cause of a refusal, by the scope paper's number. A refused call leaves session, offers and output as they were, and one
+        /// refused by 6 the work spaces too.
         #[derive(Clone, Copy, Debug, PartialEq, Eq, Hash)]
         #[repr(u32)]
         pub enum Refusal {
@@ -26,21 +27,21 @@ macro_rules! refusals {
 }
 
 refusals! {
-    1 SheetEnds "The bytes or numbers end inside the sheet."
-    2 IllFormedNumber "A number of the sheet has more than four groups, or more than it needs."
+    1 EndsInside "Bytes or numbers end inside the sheet."
+    2 IllFormed "A fourth group continues, or a last group is 0 after another group."
     3 OutOfRange "A number of the sheet is outside its range."
-    4 NotRising "Settings or rules of the sheet do not rise, or a rule's first field is not below its second."
-    5 Surplus "There are bytes or numbers after the last rule."
+    4 OutOfOrder "Settings or rules do not rise, or a rule's first field is not below its second."
+    5 Surplus "Bytes or numbers follow the last rule."
     6 TooShort "The offers list, a work space or the output is too short."
-    7 NotOnSheet "The field or position is not on the sheet, or there is no such engine."
-    8 ReachTooShort "Engine 2 is for reach 24 only."
-    9 NoOrder "The order does not hold every field just once."
-    10 InForce "The decision is already in force."
-    11 NotInForce "The decision is not in force."
-    12 EventsFull "There are 64 events already."
-    13 NoEvent "There is no event to go back on."
-    14 WipedOut "Under these decisions no setting is left in some field."
-    15 MalformedSession "The session is malformed for this sheet."
+    7 Unknown "The engine is not 1 to 3, or the field or position is not on the sheet."
+    8 TooNarrow "Engine 2 with a reach below 24."
+    9 NoOrder "The order does not hold every field just one time."
+    10 AddedAgain "The decision to add is in force."
+    11 NotInForce "The decision to withdraw is not in force."
+    12 NoRoom "There are 64 events and one is to be added."
+    13 NothingPast "Back, and there is no event."
+    14 WipedOut "Under the decisions that would hold after the call a field has no offer."
+    15 Malformed "The session is malformed."
 }
 
 impl Refusal {

@@ -37,7 +37,7 @@ impl Sheet {
     /// use belaykeel::{Refusal, Sheet};
     /// let sheet = Sheet::from_bytes([0x01, 0x01, 0xAC, 0x02, 0x18, 0x00]);
     /// assert_eq!(sheet.read(), Ok(vec![1, 1, 300, 24, 0]));
-    /// assert_eq!(Sheet::from_bytes([0x80, 0x00]).read(), Err(Refusal::IllFormedNumber));
+    /// assert_eq!(Sheet::from_bytes([0x80, 0x00]).read(), Err(Refusal::IllFormed));
     /// ```
     pub fn read(&self) -> Result<Vec<u32>, Refusal> {
         let mut numbers = vec![0; SHEET_NUMBERS];

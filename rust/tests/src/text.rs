@@ -1,10 +1,16 @@
-//! A case as text, printed where it fails and read to replay it.
+//! A case as text, printed where it fails and read to replay it, and a list of numbers as text.
 
 use crate::case::{empty_session, setting, with_setting, Case, Fill, Given, Step};
 use crate::tally::name;
 use solver::{Call, Words};
 use std::fmt::Write;
 use std::str::SplitWhitespace;
+
+/// The numbers of a text. What follows a # on a line is left out.
+pub fn numbers(text: &str) -> Vec<u32> {
+    let lines = text.lines().map(|line| line.split('#').next().unwrap_or(""));
+    lines.flat_map(str::split_whitespace).map(|token| token.parse().expect("a number")).collect()
+}
 
 /// The text of a case.
 pub fn print(case: &Case) -> String {

@@ -102,6 +102,6 @@ fn ranges_and_groups() {
     let fields = |n: u32| [vec![n], [1, 7].repeat(n as usize), vec![1, 0]].concat();
     assert_eq!(written(&fields(24)), Ok(fields(24)));
     assert_eq!(written(&fields(25)), Err(Refusal::OutOfRange));
-    assert_eq!(Sheet::from_bytes([0x80, 0x00]).read(), Err(Refusal::IllFormedNumber));
-    assert_eq!(written(&[2, 1, 0, 1, 0, 24, 1, 1, 1, 5, 0]), Err(Refusal::NotRising));
+    assert_eq!(Sheet::from_bytes([0x80, 0x00]).read(), Err(Refusal::IllFormed));
+    assert_eq!(written(&[2, 1, 0, 1, 0, 24, 1, 1, 1, 5, 0]), Err(Refusal::OutOfOrder));
 }

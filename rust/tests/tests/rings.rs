@@ -29,7 +29,7 @@ fn wiped_out_where_the_reach_sees_the_ring() {
             for engine in Engine::ALL {
                 let answer = Session::default().open(&sheet, engine, &order, &mut spaces).map(|offers| offers.masks().to_vec());
                 let expected = match engine {
-                    Engine::Sac2 if reach < 24 => Err(Refusal::ReachTooShort),
+                    Engine::Sac2 if reach < 24 => Err(Refusal::TooNarrow),
                     _ if seen => Err(Refusal::WipedOut),
                     _ => Ok(vec![3; fields]),
                 };

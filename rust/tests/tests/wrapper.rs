@@ -77,5 +77,5 @@ fn positions_and_past_events() {
     assert_eq!(events, [(2, 0, 2)]);
     session.count = u32::MAX;
     assert_eq!(session.past_events().len(), 64);
-    assert_eq!(session.show(&sheet, Engine::Sac1, &Order::Rising, &mut spaces), Err(Refusal::MalformedSession));
+    assert_eq!(session.show(&sheet, Engine::Sac1, &Order::Rising, &mut spaces), Err(Refusal::Malformed));
 }

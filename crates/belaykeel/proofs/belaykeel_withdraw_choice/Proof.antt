@@ -12,4 +12,5 @@ use Rattle.belaykeel.proofs.belaykeel_withdraw_choice.Code as code
 pub belaykeel-withdraw-choice-spec : {M : Type 1} → stated.statement M
 unfolding code.routine
 belaykeel-withdraw-choice-spec =
-    meets numbered deciding (decided WITHDRAW-CHOICE) code.env own.name callee.name callee.routine code.unfolded code.calls-calls·withdraw-choice kept.met
+    meets numbered deciding (decided WITHDRAW-CHOICE) code.env own.name callee.name callee.routine code.unfolded
+    code.calls-calls·withdraw-choice kept.met

@@ -12,4 +12,5 @@ use Rattle.belaykeel.proofs.belaykeel_withdraw_strike.Code as code
 pub belaykeel-withdraw-strike-spec : {M : Type 1} → stated.statement M
 unfolding code.routine
 belaykeel-withdraw-strike-spec =
-    meets numbered deciding (decided WITHDRAW-STRIKE) code.env own.name callee.name callee.routine code.unfolded code.calls-calls·withdraw-strike kept.met
+    meets numbered deciding (decided WITHDRAW-STRIKE) code.env own.name callee.name callee.routine code.unfolded
+    code.calls-calls·withdraw-strike kept.met

@@ -21,10 +21,15 @@ loop-holds : tie.Need-loop-holds Inv-loop μ-loop
 loop-holds c = outlining-first _ _ (c .before .before .before .pre) (c .before .fields .ensures)
 
 count-requires : tie.Need-count-requires Inv-loop μ-loop
-count-requires c κs = let p = c .before .loop .inv in record { accepted = p .accepted; within = outlining-field _ _ _ _ p (c .loop-test .taken) .0 }
+count-requires c κs =
+    let p = c .before .loop .inv in
+    record { accepted = p .accepted; within = outlining-field _ _ _ _ p (c .loop-test .taken) .0 }
 
 positions-requires : tie.Need-positions-requires Inv-loop μ-loop
-positions-requires c κs = let d = c .count .ensures in let m = outlining-field _ _ _ _ (c .before .before .loop .inv) (c .before .loop-test .taken) .3 in omega arith
+positions-requires c κs =
+    let d = c .count .ensures in
+    let m = outlining-field _ _ _ _ (c .before .before .loop .inv) (c .before .loop-test .taken) .3 in
+    omega arith
 
 mul-full : tie.Need-mul-full Inv-loop μ-loop
 mul-full c = let m = outlining-field _ _ _ _ (c .before .before .before .loop .inv) (c .before .before .loop-test .taken) .1 in search needs
@@ -39,7 +44,9 @@ loop-less : tie.Need-loop-less Inv-loop μ-loop
 loop-less c = search needs
 
 loop-again : tie.Need-loop-again Inv-loop μ-loop
-loop-again c = outlining-next _ _ _ _ (c .before .before .before .loop .inv) (c .before .before .loop-test .taken) _ _ (c .before .count .ensures) (c .positions .ensures)
+loop-again c =
+    outlining-next _ _ _ _ (c .before .before .before .loop .inv) (c .before .before .loop-test .taken) _ _ (c .before .count .ensures)
+    (c .positions .ensures)
 
 returns : tie.Need-returns Inv-loop μ-loop
 returns c = outlining-last _ _ _ _ _ (c .before .loop .inv) (c .loop-test .left) (c .before .before .reach .ensures)

@@ -21,8 +21,9 @@ ends : (c : tie.In-loop Inv-loop μ-loop)
     l .place + 1 + getD xs (l .place) 0 < length xs
 ends c =
     let l = c .before .loop in
-    let g = c .before .before .before .pre in
-    rw (l .inv .0) (facts (now (c .before .before .before .args .numbers)) (g .0) .field-end (l .k) (omega (arith, c .loop-test .taken, g .1)))
+    let start = c .before .before .before in
+    let g = start .pre in
+    rw (l .inv .0) (facts (now (start .args .numbers)) (g .0) .field-end (l .k) (omega (arith, c .loop-test .taken, g .1)))
 
 loop-again : tie.Need-loop-again Inv-loop μ-loop
 loop-again c =

@@ -12,6 +12,11 @@ use Rattle.accepted.proofs.parts.rules.Tie as tie
 ends : (c : tie.After-fields-end) → c .fields-end .result + 2 ≤ length (now (c .before .before .args .numbers))
 ends c = rw (c .fields-end .ensures) (facts (now (c .before .before .args .numbers)) (c .before .before .pre) .tail-end)
 
+returns : tie.Need-returns
+returns c =
+    let a = c .before .before .before .args in
+    c .at .ensures ∙ ap (λ (i : ℕ). getD (now (a .numbers)) (i + 1) 0) (c .before .fields-end .ensures)
+
 pub rules-spec : {M : Type 1} → statement M
 rules-spec =
     tie.close
@@ -20,4 +25,4 @@ rules-spec =
     (λ c. omega (arith, ends c))
     (λ c κs. omega (arith, ends c))
     (λ c. search needs)
-    (λ c. c .at .ensures ∙ ap (λ (i : ℕ). getD (now (c .before .before .before .args .numbers)) (i + 1) 0) (c .before .fields-end .ensures)))
+    returns)

@@ -17,4 +17,6 @@ returns c =
     c .at .ensures ∙ ap (λ (i : ℕ). getD (now (a .numbers)) (i + 1) 0) (c .before .before .pre .at)
 
 pub second-spec : {M : Type 1} → statement M
-second-spec = tie.close (tie.spec (λ c. omega (arith, ends (c .before))) (λ c κs. omega (arith, ends (c .before))) (λ c. search needs) returns)
+second-spec =
+    tie.close
+    (tie.spec (λ c. omega (arith, ends (c .before))) (λ c κs. omega (arith, ends (c .before))) (λ c. search needs) returns)

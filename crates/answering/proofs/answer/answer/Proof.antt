@@ -21,81 +21,102 @@ use borrow.Author.Needs.{needs}
 use Rattle.answering.proofs.answer.answer.Statement.{statement}
 use Rattle.answering.proofs.answer.answer.Tie as tie
 
+-- ---- the places of the function, from a later one back: where it starts, 6 has been passed, 1 to 5 have, and 15 and 7 to 13 have
+abbrev start : tie.Else1 → tie.Start
+start c = c .before .before .before .before .before .before .before
+
+abbrev roomed : tie.Else2 → tie.Else1
+roomed c = c .before .before .before .before .before .before
+
+abbrev read : tie.Else3 → tie.Else2
+read c = c .before .before .before
+
+abbrev taking : tie.Else2 → tie.After-take-in
+taking c = c .before .before .before .before
+
+-- ---- the start
+
 -- the spaces that the call is lent
 abbrev lent : tie.Start → Spaces
 lent s = spaces (now (s .args .offers)) (now (s .args .rows)) (now (s .args .memory))
 
--- 6 does not apply
-short : (c : tie.Else1) → let s = c .before .before .before .before .before .before .before in
-    false ≡ shortBy (length (lent s .offers)) (length (lent s .rows)) (length (lent s .memory))
+-- the lengths of the session's arrays, by its type
+sized : (s : tie.Start) → Sized (s .args .session)
+sized s = record {
+  decisions = record { choices = search needs; strikes = search needs };
+  events = simp length-map at (s .good .0 .1 .1 .1 .0 .1 .0 .1);
+}
+
+-- ---- 6 does not apply
+short : (c : tie.Else1) → let l = lent (start c) in false ≡ shortBy (length (l .offers)) (length (l .rows)) (length (l .memory))
 short c = sym (c .if1 .left) ∙ c .before .too-short .ensures
 
-room : (c : tie.Else1) → let s = c .before .before .before .before .before .before .before in Roomy (length (lent s .offers)) (length (lent s .rows)) (length (lent s .memory))
-room c = let s = c .before .before .before .before .before .before .before in roomy (length (lent s .offers)) (length (lent s .rows)) (length (lent s .memory)) (sym (short c))
+room : (c : tie.Else1) → let l = lent (start c) in Roomy (length (l .offers)) (length (l .rows)) (length (l .memory))
+room c = let l = lent (start c) in roomy (length (l .offers)) (length (l .rows)) (length (l .memory)) (sym (short c))
 
--- 1 to 5 do not apply: the sheet is taken in
+-- ---- 1 to 5 do not apply: the sheet is taken in
 abbrev sheet : tie.Else2 → List ℕ
-sheet c = let y = c .before .before .before .before .before .before in now (y .before .before .before .before .before .before .before .args .sheet)
+sheet c = now (start (roomed c) .args .sheet)
 
-taken : (c : tie.Else2) → let r = c .before .before .before .before .take-in in TakenIn (sheet c) (r .result) (r .last .1 .0)
-taken c = c .before .before .before .before .take-in .ensures
+taken : (c : tie.Else2) → let r = taking c .take-in in TakenIn (sheet c) (r .result) (r .last .1 .0)
+taken c = taking c .take-in .ensures
 
 unrefused : (c : tie.Else2) → refusal (ofBytes (sheet c)) ≡ 0
 unrefused c = sym (taken c .number) ∙ c .if2 .left
 
-front-accepted : (c : tie.Else2) → let r = c .before .before .before .before .take-in in Accepted (take (r .result .length) (r .last .1 .0))
+front-accepted : (c : tie.Else2) → let r = taking c .take-in in Accepted (take (r .result .length) (r .last .1 .0))
 front-accepted c = rw (taken c .front (c .if2 .left)) (bytes-accepted (sheet c) (unrefused c))
 
--- the cause among 15 and 7 to 13
+-- ---- the cause among 15 and 7 to 13
 abbrev causes : tie.Else2 → List Cause
 causes x =
-    let y = x .before .before .before .before .before .before in
-    let s = y .before .before .before .before .before .before .before in
+    let s = start (roomed x) in
     judged (outlineOf (numbers (ofBytes (sheet x)))) (s .args .call) (s .args .engine) (now (s .args .order)) (view (s .args .session))
 
 judged-by : (c : tie.After-judge) → c .judge .result ≡ first (causes (c .before .before))
 judged-by c = let x = c .before .before in rw (taken x .outline (x .if2 .left)) at (c .judge .ensures)
 
-no-cause : (c : tie.Else3) → first (causes (c .before .before .before)) ≡ 0
+no-cause : (c : tie.Else3) → first (causes (read c)) ≡ 0
 no-cause c = sym (judged-by (c .before)) ∙ c .if3 .left
 
-steps : (c : tie.Else3) → let x = c .before .before .before in let y = x .before .before .before .before .before .before in let s = y .before .before .before .before .before .before .before in StepAsks (s .args .call) (s .args .session)
+steps : (c : tie.Else3) → let s = start (roomed (read c)) in StepAsks (s .args .call) (s .args .session)
 steps c =
-    let x = c .before .before .before in
-    let y = x .before .before .before .before .before .before in
-    let s = y .before .before .before .before .before .before .before in
-    takes-step (s .args .call) (s .args .session) (sheet x) (s .args .engine) (now (s .args .order)) (lent s) (short y) (unrefused x) (no-cause c)
+    let x = read c in
+    let s = start (roomed x) in
+    takes-step (s .args .call) (s .args .session) (sized s) (sheet x) (s .args .engine) (now (s .args .order)) (lent s)
+    (short (roomed x)) (unrefused x) (no-cause c)
 
-ordered : (c : tie.Else3) → let x = c .before .before .before in let y = x .before .before .before .before .before .before in let s = y .before .before .before .before .before .before .before in
-    isOrder (x .before .before .before .before .take-in .result .outline .fields) (now (s .args .order)) ≡ true
+ordered : (c : tie.Else3) → let x = read c in
+    isOrder (taking x .take-in .result .outline .fields) (now (start (roomed x) .args .order)) ≡ true
 ordered c =
-    let x = c .before .before .before in
-    let y = x .before .before .before .before .before .before in
-    let s = y .before .before .before .before .before .before .before in
-    rw (taken x .outline (x .if2 .left))
-    (is-order (s .args .call) (s .args .session) (sheet x) (s .args .engine) (now (s .args .order)) (lent s) (short y) (unrefused x) (no-cause c))
+    let x = read c in
+    let s = start (roomed x) in
+    ap (λ (o : Outline). isOrder (o .fields) (now (s .args .order))) (taken x .outline (x .if2 .left))
+    ∙ is-order (s .args .call) (s .args .session) (sized s) (sheet x) (s .args .engine) (now (s .args .order)) (lent s)
+    (short (roomed x)) (unrefused x) (no-cause c)
 
--- the outline and the network are the sheet's
-prepared : (c : tie.After-build) → let x = c .before .before .before .before .before .before in
-    Prepared (numbers (ofBytes (sheet x))) (x .before .before .before .before .take-in .result .outline) (c .build .result) (c .build .last .1 .0)
+-- ---- the outline and the network are the sheet's
+abbrev judgedAt : tie.After-build → tie.Else3
+judgedAt c = c .before .before .before
+
+prepared : (c : tie.After-build) → let x = read (judgedAt c) in
+    Prepared (numbers (ofBytes (sheet x))) (taking x .take-in .result .outline) (c .build .result) (c .build .last .1 .0)
 prepared c =
-    let x = c .before .before .before .before .before .before in
+    let x = read (judgedAt c) in
     record {
       accepted = bytes-accepted (sheet x) (unrefused x);
       outline = taken x .outline (x .if2 .left);
       network = rw (taken x .front (x .if2 .left)) at (c .build .ensures);
     }
 
--- the lengths of the session's arrays
-sized : (s : tie.Start) → Sized (s .args .session)
-sized s = record { decisions = record { choices = search needs; strikes = search needs }; events = simp length-map at (s .good .0 .1 .1 .1 .0 .1 .0 .1) }
-
+-- ---- the needs
 too-short-requires : tie.Need-too-short-requires
 too-short-requires c κs = search needs
 
 returns : tie.Need-returns
 returns c =
-    answers-short _ _ _ _ _ (lent (c .before .before .before .before .before .before .before)) (sym (c .if1 .taken) ∙ c .before .too-short .ensures)
+    let s = c .before .before .before .before .before .before .before in
+    answers-short _ _ (sized s) _ _ _ (lent s) (sym (c .if1 .taken) ∙ c .before .too-short .ensures)
 
 take-in-requires : tie.Need-take-in-requires
 take-in-requires c κs = room (c .before) .sheet-room
@@ -106,7 +127,8 @@ same-length c = search needs
 returns-2 : tie.Need-returns-2
 returns-2 c =
     let y = c .before .before .before .before .before .before in
-    answers-sheet _ _ _ _ _ (lent (y .before .before .before .before .before .before .before)) (short y) _ _ refl (c .if2 .taken) (c .before .before .before .before .take-in .ensures .number)
+    answers-sheet _ _ (sized (start y)) _ _ _ (lent (start y)) (short y) _ _ refl (c .if2 .taken)
+    (c .before .before .before .before .take-in .ensures .number)
 
 judge-requires : tie.Need-judge-requires
 judge-requires c κs = search needs
@@ -117,8 +139,8 @@ same-length-2 c = search needs
 returns-3 : tie.Need-returns-3
 returns-3 c =
     let x = c .before .before .before in
-    let y = x .before .before .before .before .before .before in
-    answers-judged _ _ _ _ _ (lent (y .before .before .before .before .before .before .before)) (short y) (unrefused x) _ _ refl (c .if3 .taken) (judged-by (c .before))
+    let y = roomed x in
+    answers-judged _ _ (sized (start y)) _ _ _ (lent (start y)) (short y) (unrefused x) _ _ refl (c .if3 .taken) (judged-by (c .before))
 
 slice-reshare-prefix-build : tie.Need-slice-reshare-prefix-build
 slice-reshare-prefix-build c =
@@ -129,7 +151,7 @@ slice-aggregate-build c =
     let x = c .before .before .before .before in sym (length-take-le _ _ (taken x .ends (x .if2 .left)))
 
 build-requires : tie.Need-build-requires
-build-requires c κs = (front-accepted (c .before .before .before .before .before), room (c .before .before .before .before .before .before .before .before .before .before .before) .rows-room)
+build-requires c κs = let x = c .before .before .before .before .before in (front-accepted x, room (roomed x) .rows-room)
 
 step-requires : tie.Need-step-requires
 step-requires c κs = steps (c .before .before .before .before .before)
@@ -137,16 +159,16 @@ step-requires c κs = steps (c .before .before .before .before .before)
 settle-requires : tie.Need-settle-requires
 settle-requires c κs =
     let b = c .before .before .before .before .before .before in
-    let a = b .before .before .before in
-    let x = a .before .before .before in
-    let r = room (x .before .before .before .before .before .before) in
+    let a = judgedAt b in
+    let x = read a in
+    let r = room (roomed x) in
     record {
       sheet = numbers (ofBytes (sheet x));
       prepared = prepared b;
       ordered = ordered a;
       offers-room = r .offers-room;
       rows-room = rw (b .build .kept .1 .0) (r .rows-room);
-      memory-room = rw (x .before .before .before .before .take-in .kept .1 .0) (r .memory-room);
+      memory-room = rw (taking x .take-in .kept .1 .0) (r .memory-room);
     }
 
 same-length-3 : tie.Need-same-length-3
@@ -158,21 +180,19 @@ same-length-4 c = search needs
 same-length-5 : tie.Need-same-length-5
 same-length-5 c =
     let d = c .before .before .before .before .before in
-    let e = d .before .before .before .before in
-    let b = e .before .before .before in
-    let a = b .before .before .before in
-    d .settle .kept .1 .1 .1 .1 .1 .1 .1 .0 ∙ a .before .before .before .before .before .before .before .take-in .kept .1 .0
+    let b = d .before .before .before .before .before .before .before in
+    d .settle .kept .1 .1 .1 .1 .1 .1 .1 .0 ∙ taking (read (judgedAt b)) .take-in .kept .1 .0
 
 returns-4 : tie.Need-returns-4
 returns-4 c =
     let d = c .before .before .before .before .before in
     let e = d .before .before .before .before in
     let b = e .before .before .before in
-    let a = b .before .before .before in
-    let x = a .before .before .before in
-    let y = x .before .before .before .before .before .before in
-    let s = y .before .before .before .before .before .before .before in
-    answers-wiped _ _ _ _ _ (lent s) (short y) (unrefused x) (no-cause a) (sized s) _ (e .step .ensures) _ _ (d .settle .ensures _ (prepared b)) (c .if4 .taken)
+    let a = judgedAt b in
+    let x = read a in
+    let y = roomed x in
+    answers-wiped _ _ (sized (start y)) _ _ _ (lent (start y)) (short y) (unrefused x) (no-cause a) _ (e .step .ensures) _ _
+    (d .settle .ensures _ (prepared b)) (c .if4 .taken)
 
 same-length-6 : tie.Need-same-length-6
 same-length-6 c = search needs
@@ -183,21 +203,19 @@ same-length-7 c = search needs
 same-length-8 : tie.Need-same-length-8
 same-length-8 c =
     let d = c .before .before .before .before .before in
-    let e = d .before .before .before .before in
-    let b = e .before .before .before in
-    let a = b .before .before .before in
-    d .settle .kept .1 .1 .1 .1 .1 .1 .1 .0 ∙ a .before .before .before .before .before .before .before .take-in .kept .1 .0
+    let b = d .before .before .before .before .before .before .before in
+    d .settle .kept .1 .1 .1 .1 .1 .1 .1 .0 ∙ taking (read (judgedAt b)) .take-in .kept .1 .0
 
 returns-5 : tie.Need-returns-5
 returns-5 c =
     let d = c .before .before .before .before .before in
     let e = d .before .before .before .before in
     let b = e .before .before .before in
-    let a = b .before .before .before in
-    let x = a .before .before .before in
-    let y = x .before .before .before .before .before .before in
-    let s = y .before .before .before .before .before .before .before in
-    answers-accepted _ _ _ _ _ (lent s) (short y) (unrefused x) (no-cause a) (sized s) _ (e .step .ensures) _ _ (d .settle .ensures _ (prepared b)) (c .if4 .left)
+    let a = judgedAt b in
+    let x = read a in
+    let y = roomed x in
+    answers-accepted _ _ (sized (start y)) _ _ _ (lent (start y)) (short y) (unrefused x) (no-cause a) _ (e .step .ensures) _ _
+    (d .settle .ensures _ (prepared b)) (c .if4 .left)
 
 pub answer-spec : {M : Type 1} → statement M
 answer-spec =

@@ -44,7 +44,8 @@ returns-2 : tie.Need-returns-2
 returns-2 c =
     let r = c .before .before .before .before .before .before .read in
     let s = c .before .before .before .before .before .before .before .before .before .before in
-    taken-read (now (s .args .sheet)) (now (s .args .memory)) (s .pre) _ _ (r .ensures) _ (c .before .before .if1 .left) (c .outline-of .ensures)
+    taken-read (now (s .args .sheet)) (now (s .args .memory)) (s .pre) _ _ (r .ensures) _ (c .before .before .if1 .left)
+    (c .outline-of .ensures)
 
 pub take-in-spec : {M : Type 1} → statement M
 take-in-spec =

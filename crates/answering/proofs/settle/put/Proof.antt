@@ -18,16 +18,32 @@ loop-holds : tie.Need-loop-holds Inv-loop μ-loop
 loop-holds c = (search needs, putting-start _ _)
 
 mul-offers : tie.Need-mul-offers Inv-loop μ-loop
-mul-offers c = let z = c .before .loop .inv .1 .sized in let y = c .before .before .pre .0 in let x = c .before .before .pre .1 in search needs
+mul-offers c =
+    let z = c .before .loop .inv .1 .sized in
+    let y = c .before .before .pre .0 in
+    let x = c .before .before .pre .1 in
+    search needs
 
 array-read-offers : tie.Need-array-read-offers Inv-loop μ-loop
-array-read-offers c = let z = c .before .loop .inv .1 .sized in let y = c .before .before .pre .0 in let x = c .before .before .pre .1 in search needs
+array-read-offers c =
+    let z = c .before .loop .inv .1 .sized in
+    let y = c .before .before .pre .0 in
+    let x = c .before .before .pre .1 in
+    search needs
 
 mul-offers-2 : tie.Need-mul-offers-2 Inv-loop μ-loop
-mul-offers-2 c = let z = c .before .loop .inv .1 .sized in let y = c .before .before .pre .0 in let x = c .before .before .pre .1 in search needs
+mul-offers-2 c =
+    let z = c .before .loop .inv .1 .sized in
+    let y = c .before .before .pre .0 in
+    let x = c .before .before .pre .1 in
+    search needs
 
 slice-write-offers : tie.Need-slice-write-offers Inv-loop μ-loop
-slice-write-offers c = let z = c .before .loop .inv .1 .sized in let y = c .before .before .pre .0 in let x = c .before .before .pre .1 in search needs
+slice-write-offers c =
+    let z = c .before .loop .inv .1 .sized in
+    let y = c .before .before .pre .0 in
+    let x = c .before .before .pre .1 in
+    search needs
 
 add-f : tie.Need-add-f Inv-loop μ-loop
 add-f c = search needs
@@ -36,7 +52,12 @@ loop-less : tie.Need-loop-less Inv-loop μ-loop
 loop-less c = search needs
 
 loop-again : tie.Need-loop-again Inv-loop μ-loop
-loop-again c = (search needs, putting-next _ _ _ _ (let z = c .before .loop .inv .1 .sized in let y = c .before .before .pre .0 in let x = c .before .before .pre .1 in search needs) (c .before .loop .inv .1))
+loop-again c =
+    let p = c .before .loop .inv .1 in
+    let z = p .sized in
+    let y = c .before .before .pre .0 in
+    let x = c .before .before .pre .1 in
+    (search needs, putting-next _ _ _ _ (search needs) p)
 
 same-length : tie.Need-same-length Inv-loop μ-loop
 same-length c = c .before .loop .inv .1 .sized
@@ -45,7 +66,9 @@ returns : tie.Need-returns Inv-loop μ-loop
 returns c =
     let e : c .before .loop .f ≡ c .before .before .args .n = search needs in
     let l : length (c .before .before .args .t2) ≡ mostFields = search needs in
-    rw e at (putting-end _ _ _ _ (let z = c .before .before .pre .0 in omega arith) (let z = c .before .before .pre .0 in let x = c .before .before .pre .1 in omega arith) (c .before .loop .inv .1))
+    let y = c .before .before .pre .0 in
+    let x = c .before .before .pre .1 in
+    rw e at (putting-end _ _ _ _ (omega arith) (omega arith) (c .before .loop .inv .1))
 
 pub put-spec : {M : Type 1} → statement M
 put-spec =

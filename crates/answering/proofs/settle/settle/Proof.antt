@@ -27,11 +27,12 @@ same-length c = search needs
 returns : tie.Need-returns
 unfolding view
 returns c =
-    let t = c .before .before .before .before .before .before .turned .ensures in
-    let f = c .before .before .before .before .before .before .before .forward .ensures in
-    let m = c .before .before .before .before .before .before .before .before .start .ensures in
-    let s = c .before .before .before .before .before .before .before .before .before .before .before .before .before in
-    λ xs p. settled-wiped xs _ _ _ p (view (s .args .session)) _ _ _ _ m (rw (f, t) at (c .before .before .before .run .ensures)) (c .if1 .taken)
+    let ran = c .before .before .before in
+    let t = ran .before .before .before .turned .ensures in
+    let f = ran .before .before .before .before .forward .ensures in
+    let m = ran .before .before .before .before .before .start .ensures in
+    let s = ran .before .before .before .before .before .before .before .before .before .before in
+    λ xs p. settled-wiped xs _ _ _ p (view (s .args .session)) _ _ _ _ m (rw (f, t) at (ran .run .ensures)) (c .if1 .taken)
 
 put-requires : tie.Need-put-requires
 put-requires c κs =
@@ -47,11 +48,14 @@ same-length-3 c = search needs
 returns-2 : tie.Need-returns-2
 unfolding view
 returns-2 c =
-    let t = c .before .before .before .before .before .before .before .before .before .before .turned .ensures in
-    let f = c .before .before .before .before .before .before .before .before .before .before .before .forward .ensures in
-    let m = c .before .before .before .before .before .before .before .before .before .before .before .before .start .ensures in
-    let s = c .before .before .before .before .before .before .before .before .before .before .before .before .before .before .before .before .before in
-    λ xs p. settled-offers xs _ _ _ p (view (s .args .session)) _ _ _ _ m (rw (f, t) at (c .before .before .before .before .before .before .before .run .ensures)) (c .before .before .before .before .if1 .left) _ (c .before .before .put .ensures)
+    let live = c .before .before .before .before in
+    let ran = live .before .before .before in
+    let t = ran .before .before .before .turned .ensures in
+    let f = ran .before .before .before .before .forward .ensures in
+    let m = ran .before .before .before .before .before .start .ensures in
+    let s = ran .before .before .before .before .before .before .before .before .before .before in
+    λ xs p. settled-offers xs _ _ _ p (view (s .args .session)) _ _ _ _ m (rw (f, t) at (ran .run .ensures)) (live .if1 .left) _
+    (c .before .before .put .ensures)
 
 pub settle-spec : {M : Type 1} → statement M
 settle-spec =

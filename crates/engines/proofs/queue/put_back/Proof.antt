@@ -1,8 +1,9 @@
 -- `put_back` adds the neighbours of each changed field, or every field.
+use mathlib.Core.Path.{sym, _∙_}
 use native.Mathlib.Omega.{arith}
 use borrow.Author.Needs.{needs}
 use Rattle.masks.specs.Words.{clear-lt}
-use Rattle.engines.specs.Queue.{Backing, back-all, backing-start, backing-turn, backing-end}
+use Rattle.engines.specs.PutBack.{back-none, back-all, back-others, Backing, changed-low, backing-start, backing-turn, backing-end}
 use Rattle.engines.proofs.queue.put_back.Statement.{statement}
 use Rattle.engines.proofs.queue.put_back.Tie as tie
 
@@ -12,14 +13,19 @@ Inv-loop queue changed net r₀ left₀ r left = Backing (net .fields) (net .hoo
 abbrev μ-loop : tie.MeasureT-loop
 μ-loop queue changed net r₀ left₀ r left = left
 
+returns : tie.Need-returns Inv-loop μ-loop
+returns c = sym (back-none _ _ _ _ _ (c .if1 .taken))
+
 all-fields-requires : tie.Need-all-fields-requires Inv-loop μ-loop
 all-fields-requires c κs = c .before .before .pre .few
 
-returns : tie.Need-returns Inv-loop μ-loop
-returns c = rw (c .all-fields .ensures) (back-all _ _ _ _ (c .before .before .before .pre) (c .before .before .if1 .taken))
+returns-2 : tie.Need-returns-2 Inv-loop μ-loop
+returns-2 c =
+    let test = c .before in
+    c .all-fields .ensures ∙ sym (back-all _ _ _ _ _ (test .before .if1 .left) (let h = test .if2 .taken in omega arith))
 
 loop-holds : tie.Need-loop-holds Inv-loop μ-loop
-loop-holds c = backing-start _ _ _ _ (c .before .pre)
+loop-holds c = backing-start _ _ _ _ (c .before .before .pre)
 
 lowest-bit-requires : tie.Need-lowest-bit-requires Inv-loop μ-loop
 lowest-bit-requires c κs = search needs
@@ -31,7 +37,10 @@ element-copy-out-clear-bit : tie.Need-element-copy-out-clear-bit Inv-loop μ-loo
 element-copy-out-clear-bit c =
     let lowest = c .before in
     let loop = lowest .before .before in
-    loop .before .before .pre .hoods _ (loop .loop .inv .lefts _ (lowest .lowest-bit .ensures .0 .set)) .0
+    let p = loop .before .before .before .pre in
+    let few = p .few in
+    let low = changed-low _ _ _ _ p _ (loop .loop .inv .lefts _ (lowest .lowest-bit .ensures .0 .set)) in
+    omega arith
 
 mul-clear-bit : tie.Need-mul-clear-bit Inv-loop μ-loop
 mul-clear-bit c = let l = element-copy-out-clear-bit c in omega arith
@@ -47,10 +56,14 @@ loop-again c =
     let lowest = c .before .before .before in
     let loop = lowest .before .before in
     rw (c .before .before .clear-bit .ensures, c .clear-bit2 .ensures)
-    (backing-turn _ _ _ _ (loop .before .before .pre) _ _ _ (lowest .lowest-bit .ensures .0 .set) (loop .loop .inv))
+    (backing-turn _ _ _ _ (loop .before .before .before .pre) _ _ _ (lowest .lowest-bit .ensures .0 .set) (loop .loop .inv))
 
-returns-2 : tie.Need-returns-2 Inv-loop μ-loop
-returns-2 c = backing-end _ _ _ _ (c .before .before .before .pre) _ _ (c .loop-test .left) (c .before .loop .inv)
+returns-3 : tie.Need-returns-3 Inv-loop μ-loop
+returns-3 c =
+    let loop = c .before in
+    let test = loop .before in
+    backing-end _ _ _ _ (test .before .before .pre) _ _ (c .loop-test .left) (loop .loop .inv)
+    ∙ sym (back-others _ _ _ _ _ (test .before .if1 .left) (let h = test .if2 .left in omega arith))
 
 pub put-back-spec : {M : Type 1} → statement M
 put-back-spec =
@@ -58,8 +71,9 @@ put-back-spec =
     (tie.spec
     Inv-loop
     μ-loop
-    all-fields-requires
     returns
+    all-fields-requires
+    returns-2
     loop-holds
     lowest-bit-requires
     clear-bit-requires
@@ -68,4 +82,4 @@ put-back-spec =
     clear-bit-requires-2
     loop-less
     loop-again
-    returns-2)
+    returns-3)

@@ -8,7 +8,8 @@ use Rattle.network.specs.Tables.{problemOf}
 use Rattle.network.specs.Network.{problemIn}
 use Rattle.visiting.specs.Store.{Store}
 use Rattle.engines.specs.EngineAsks.{order-low, visit-asks, kept-asks}
-use Rattle.engines.specs.Queue.{Waiting, waiting-start, waiting-skip, waiting-none, waiting-turn, waiting-end, back-asks}
+use Rattle.engines.specs.PutBack.{back-asks}
+use Rattle.engines.specs.Queue.{Waiting, waiting-start, waiting-skip, waiting-none, waiting-turn, waiting-end}
 use Rattle.engines.proofs.queue.round.Statement.{statement}
 use Rattle.engines.proofs.queue.round.Tie as tie
 
@@ -65,13 +66,14 @@ clear-bit-requires : tie.Need-clear-bit-requires Inv-loop μ-loop
 clear-bit-requires c κs = search needs
 
 put-back-requires : tie.Need-put-back-requires Inv-loop μ-loop
+unfolding problemOf
 put-back-requires c κs =
     let visit = c .before .before .before .before in
     let loop = visit .before .before .before .before .before .before .before .before in
     let p = loop .before .before .before .before .before .pre in
     let marks = visit .visit .ensures .0 .marks (c .before .if2 .left) in
     rw (c .clear-bit .ensures)
-    (back-asks _ _ _ _ _ _ (p .0 .0 .wired .few) (p .1 .0) _ _ (λ v e. loop .loop .inv .1 .1 .small v (clear-within _ _ v e)) marks)
+    (back-asks _ _ (p .0 .0 .wired .few) (p .1 .0 .hoods) _ _ (λ v e. loop .loop .inv .1 .1 .small v (clear-within _ _ v e)) marks)
 
 loop-less : tie.Need-loop-less Inv-loop μ-loop
 loop-less c = search needs
@@ -88,7 +90,11 @@ loop-again c =
     let visited = rw e at (visit .visit .ensures .0) in
     let back = rw (c .before .clear-bit .ensures, e) at (c .put-back .ensures) in (
       search needs,
-      (_, waiting-turn _ _ _ _ _ _ _ _ _ (loop .loop .inv .1 .1) low _ _ _ visited (c .before .before .if2 .left) (p .1 .0 .hoods) _ back),
+      (
+        _,
+        waiting-turn _ _ _ _ _ _ _ _ _ (loop .loop .inv .1 .1) low _ _ _ visited (c .before .before .if2 .left) (p .0 .0 .wired .few)
+            (p .1 .0 .hoods) _ _ back,
+      ),
       visit .visit .ensures .1,
       visit .visit .kept .1 .1 .0 ∙ loop .loop .inv .3,
     )

@@ -20,15 +20,20 @@ returns : tie.Need-returns
 unfolding advance
 returns c =
     let a = c .before .before .before .before .before .args in
-    let q = c .before .before .enum-told .given .1 in
-    (rw (c .wants-if .ensures, c .before .up-to .ensures) (leads (a .n) (now (a .counts)) (a .x) q), counted (a .n) (now (a .counts)) (a .x) q)
+    let q = c .before .before .enum-told .given .1 in (
+      rw (c .wants-if .ensures, c .before .up-to .ensures) (leads (a .n) (now (a .counts)) (a .x) q),
+      counted (a .n) (now (a .counts)) (a .x) q,
+    )
 
 returns-2 : tie.Need-returns-2
 unfolding advance
 returns-2 c =
     let a = c .before .before .before .before .before .before .before .before .before .before .before .args in
-    let q = c .before .before .before .before .before .before .before .before .expected .given .1 in
-    (rw (c .wants-if2 .ensures, c .before .less-one .ensures, c .before .before .up-to2 .ensures) (leads (a .n) (now (a .counts)) (a .x) q), c .before .before .before .before .before .set-count .ensures ∙ counted (a .n) (now (a .counts)) (a .x) q)
+    let q = c .before .before .before .before .before .before .before .before .expected .given .1 in (
+      rw (c .wants-if2 .ensures, c .before .less-one .ensures, c .before .before .up-to2 .ensures)
+          (leads (a .n) (now (a .counts)) (a .x) q),
+      c .before .before .before .before .before .set-count .ensures ∙ counted (a .n) (now (a .counts)) (a .x) q,
+    )
 
 returns-3 : tie.Need-returns-3
 unfolding advance
@@ -41,8 +46,10 @@ returns-4 : tie.Need-returns-4
 unfolding advance
 returns-4 c =
     let a = c .before .before .before .before .before .args in
-    let q = c .before .before .enum-told2 .given .1 in
-    (rw (c .wants-if3 .ensures, c .before .up-to3 .ensures) (leads (a .n) (now (a .counts)) (a .x) q), counted (a .n) (now (a .counts)) (a .x) q)
+    let q = c .before .before .enum-told2 .given .1 in (
+      rw (c .wants-if3 .ensures, c .before .up-to3 .ensures) (leads (a .n) (now (a .counts)) (a .x) q),
+      counted (a .n) (now (a .counts)) (a .x) q,
+    )
 
 returns-5 : tie.Need-returns-5
 unfolding advance
@@ -69,15 +76,19 @@ returns-8 : tie.Need-returns-8
 unfolding advance
 returns-8 c =
     let a = c .before .before .before .before .before .before .before .args in
-    let q = c .before .before .before .before .expected5 .given .1 in
-    (rw (c .kind .ensures, c .before .count-of .ensures) (leads (a .n) (now (a .counts)) (a .x) q), counted (a .n) (now (a .counts)) (a .x) q)
+    let q = c .before .before .before .before .expected5 .given .1 in (
+      rw (c .kind .ensures, c .before .count-of .ensures) (leads (a .n) (now (a .counts)) (a .x) q),
+      counted (a .n) (now (a .counts)) (a .x) q,
+    )
 
 returns-9 : tie.Need-returns-9
 unfolding advance
 returns-9 c =
     let a = c .before .before .before .before .before .before .before .args in
-    let q = c .before .before .before .before .expected6 .given .1 in
-    (rw (c .mask .ensures, c .before .count-of2 .ensures) (leads (a .n) (now (a .counts)) (a .x) q), counted (a .n) (now (a .counts)) (a .x) q)
+    let q = c .before .before .before .before .expected6 .given .1 in (
+      rw (c .mask .ensures, c .before .count-of2 .ensures) (leads (a .n) (now (a .counts)) (a .x) q),
+      counted (a .n) (now (a .counts)) (a .x) q,
+    )
 
 returns-10 : tie.Need-returns-10
 unfolding advance

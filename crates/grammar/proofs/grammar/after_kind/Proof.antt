@@ -11,7 +11,8 @@ use Rattle.grammar.proofs.grammar.after_kind.Tie as tie
 returns : tie.Need-returns
 returns c =
     let a = c .before .before .args in
-    ap (λ (k : ℕ). Wants (a .n) (Mask (a .rules) (a .floor) (a .j) k)) (c .less-one .ensures) ∙ sym (pick-true _ _ _ (eq-eqb (a .kind) 0 (c .before .if1 .taken)))
+    ap (λ (k : ℕ). Wants (a .n) (Mask (a .rules) (a .floor) (a .j) k)) (c .less-one .ensures)
+    ∙ sym (pick-true _ _ _ (eq-eqb (a .kind) 0 (c .before .if1 .taken)))
 
 returns-2 : tie.Need-returns-2
 returns-2 c = sym (pick-false _ _ _ (ne-eqb (c .before .args .kind) 0 (c .if1 .left)))

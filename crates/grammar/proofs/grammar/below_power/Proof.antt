@@ -17,8 +17,8 @@ div-zero x d = go (ltb x (2 ^ d)) refl
     go : (t : Bool) → ltb x (2 ^ d) ≡ t → eqb (x / 2 ^ d) 0 ≡ ltb x (2 ^ d)
     go true e = eq-eqb _ 0 (div-eq-of-lt (ltb-true x (2 ^ d) e)) ∙ sym e
     go false e =
-        ne-eqb (x / 2 ^ d) 0
-        (λ q. absurd (omega (arith, ltb-false x (2 ^ d) e, div-lt-iff-lt-mul {k = 2 ^ d} {x = x} {y = 1} (pow-pos d) .0 (omega (arith, q)))))
+        let below = div-lt-iff-lt-mul {k = 2 ^ d} {x = x} {y = 1} (pow-pos d) .0 in
+        ne-eqb (x / 2 ^ d) 0 (λ q. absurd (omega (arith, ltb-false x (2 ^ d) e, below (omega (arith, q)))))
         ∙ sym e
 
 returns : tie.Need-returns

@@ -8,12 +8,14 @@ use Rattle.grammar.proofs.grammar.second.Tie as tie
 returns : tie.Need-returns
 returns c =
     let a = c .before .before .before .args in
-    sym (pick-true _ _ _ (lt-ltb (a .x) (a .n) (c .before .before .if1 .taken)) ∙ pick-true _ _ _ (sym (c .before .rising .ensures) ∙ c .if2 .taken))
+    sym (pick-true _ _ _ (lt-ltb (a .x) (a .n) (c .before .before .if1 .taken))
+    ∙ pick-true _ _ _ (sym (c .before .rising .ensures) ∙ c .if2 .taken))
 
 returns-2 : tie.Need-returns-2
 returns-2 c =
     let a = c .before .before .before .args in
-    sym (pick-true _ _ _ (lt-ltb (a .x) (a .n) (c .before .before .if1 .taken)) ∙ pick-false _ _ _ (sym (c .before .rising .ensures) ∙ c .if2 .left))
+    sym (pick-true _ _ _ (lt-ltb (a .x) (a .n) (c .before .before .if1 .taken))
+    ∙ pick-false _ _ _ (sym (c .before .rising .ensures) ∙ c .if2 .left))
 
 returns-3 : tie.Need-returns-3
 returns-3 c = let a = c .before .args in sym (pick-false _ _ _ (le-ltb (a .x) (a .n) (c .if1 .left)))

@@ -1,4 +1,4 @@
-use mathlib.Core.Path.{_≡_, refl, sym, ap, ap₂, _∙_}
+use mathlib.Core.Path.{_≡_, sym, ap, ap₂, _∙_}
 use mathlib.Core.Bool.{Bool, _&&_}
 use mathlib.Core.List.{List}
 use Prim.Native.Nat.{ℕ, _+_, _-_, _*_, _<_, _≤_}
@@ -14,24 +14,32 @@ use Rattle.groups.specs.declared.groups.Number.the-variants.{Value}
 use Rattle.groups.proofs.groups.number_at.Statement.{statement}
 use Rattle.groups.proofs.groups.number_at.Tie as tie
 
+-- the byte at a place of a slice
+abbrev ByteAt : (s : List ℕ) (i b : ℕ) → Type 0
+ByteAt s i b = (b ≡ getD s i 0) × (b < 256)
+
+-- a group that continues, the byte b at place i
+more : (s : List ℕ) (w v i left b : ℕ) → 0 < left → ByteAt s i b → i < length s → 128 ≤ b
+    → groups left w v i (drop i s) ≡ groups (left - 1) (w * 128) (v + w * (b - 128)) (i + 1) (drop (i + 1) s)
+more s w v i left b p e h k =
+    groups-more s w v i left p h (rw (e .0) at k) (rw (e .0) at (e .1))
+    ∙ ap (λ (y : ℕ). groups (left - 1) (w * 128) (v + w * (y - 128)) (i + 1) (drop (i + 1) s)) (sym (e .0))
+
 -- what is left after one, two and three groups that continue, from the place p on
-module _ (s : List ℕ) (p a b d : ℕ) (ea : a ≡ getD s p 0) (eb : b ≡ getD s (p + 1) 0) (ed : d ≡ getD s (p + 1 + 1) 0) where
+module _ (s : List ℕ) (p a : ℕ) (ea : ByteAt s p a) where
   one : p < length s → 128 ≤ a → numberAt s p ≡ groups 3 128 (a - 128) (p + 1) (drop (p + 1) s)
   unfolding numberAt
-  one h k =
-      groups-more s 1 0 p 4 (omega arith) h (rw ea at k)
-      ∙ ap (λ (v : ℕ). groups 3 128 v (p + 1) (drop (p + 1) s)) (omega arith)
+  one h k = more s 1 0 p 4 a (omega arith) ea h k ∙ ap (λ (v : ℕ). groups 3 128 v (p + 1) (drop (p + 1) s)) (omega arith)
 
-  two : p + 1 < length s → 128 ≤ a → 128 ≤ b → numberAt s p ≡ groups 2 16384 (a - 128 + 128 * (b - 128)) (p + 1 + 1) (drop (p + 1 + 1) s)
-  two h k l =
-      one (omega arith) k ∙ groups-more s 128 (a - 128) (p + 1) 3 (omega arith) h (rw eb at l)
-      ∙ ap (λ (y : ℕ). groups 2 16384 (a - 128 + 128 * (y - 128)) (p + 1 + 1) (drop (p + 1 + 1) s)) (sym eb)
+  module _ (b : ℕ) (eb : ByteAt s (p + 1) b) where
+    two : p + 1 < length s → 128 ≤ a → 128 ≤ b
+        → numberAt s p ≡ groups 2 16384 (a - 128 + 128 * (b - 128)) (p + 1 + 1) (drop (p + 1 + 1) s)
+    two h k l = one (omega arith) k ∙ more s 128 (a - 128) (p + 1) 3 b (omega arith) eb h l
 
-  three : p + 1 + 1 < length s → 128 ≤ a → 128 ≤ b → 128 ≤ d
-      → numberAt s p ≡ groups 1 2097152 (a - 128 + 128 * (b - 128) + 16384 * (d - 128)) (p + 1 + 1 + 1) (drop (p + 1 + 1 + 1) s)
-  three h k l m =
-      two (omega arith) k l ∙ groups-more s 16384 (a - 128 + 128 * (b - 128)) (p + 1 + 1) 2 (omega arith) h (rw ed at m)
-      ∙ ap (λ (y : ℕ). groups 1 2097152 (a - 128 + 128 * (b - 128) + 16384 * (y - 128)) (p + 1 + 1 + 1) (drop (p + 1 + 1 + 1) s)) (sym ed)
+    module _ (d : ℕ) (ed : ByteAt s (p + 1 + 1) d) where
+      three : p + 1 + 1 < length s → 128 ≤ a → 128 ≤ b → 128 ≤ d
+          → numberAt s p ≡ groups 1 2097152 (a - 128 + 128 * (b - 128) + 16384 * (d - 128)) (p + 1 + 1 + 1) (drop (p + 1 + 1 + 1) s)
+      three h k l m = two (omega arith) k l ∙ more s 16384 (a - 128 + 128 * (b - 128)) (p + 1 + 1) 2 d (omega arith) ed h m
 
 -- a last group, after another
 last : (s : List ℕ) (w v i left y : ℕ) → 0 < left → 1 < w → i < length s → y ≡ getD s i 0 → y < 128
@@ -49,67 +57,89 @@ unfolding numberAt pick
 returns-2 c =
     let a = c .before .before .before .before .before .args in
     let e = c .before .wide .ensures .0 in
-    sym (groups-last (now (a .sheet)) 1 0 (a .place) 4 (omega arith) (omega arith) (omega arith) ∙ ap (λ (y : ℕ). Value y (a .place + 1)) (omega arith))
+    sym (groups-last (now (a .sheet)) 1 0 (a .place) 4 (omega arith) (omega arith) (omega arith)
+    ∙ ap (λ (y : ℕ). Value y (a .place + 1)) (omega arith))
 
 returns-3 : tie.Need-returns-3
 returns-3 c =
     let a = c .before .before .before .before .before .before .args in
-    let ea = c .before .before .wide .ensures .0 in
-    sym (one (now (a .sheet)) (a .place) _ _ _ ea refl refl (omega arith) (omega arith) ∙ groups-ended (now (a .sheet)) 128 _ (a .place + 1) 3 (omega arith) (omega arith))
+    let ea = c .before .before .wide .ensures in
+    sym (one (now (a .sheet)) (a .place) _ ea (omega arith) (omega arith)
+    ∙ groups-ended (now (a .sheet)) 128 _ (a .place + 1) 3 (omega arith) (omega arith))
 
 returns-4 : tie.Need-returns-4
 returns-4 c =
-    let a = c .before .before .before .before .before .before .before .before .before .before .args in
-    let ea = c .before .before .before .before .before .before .wide .ensures .0 in
-    let eb = c .before .before .wide2 .ensures .0 in
-    c .last-group .ensures ∙ last (now (a .sheet)) 128 _ (a .place + 1) 3 _ (omega arith) (omega arith) (omega arith) eb (omega arith)
-    ∙ sym (one (now (a .sheet)) (a .place) _ _ _ ea refl refl (omega arith) (omega arith))
+    let second = c .before .before in
+    let first = second .before .before .before .before in
+    let a = first .before .before .before .before .args in
+    let ea = first .wide .ensures in
+    let eb = second .wide2 .ensures in
+    c .last-group .ensures ∙ last (now (a .sheet)) 128 _ (a .place + 1) 3 _ (omega arith) (omega arith) (omega arith) (eb .0) (omega arith)
+    ∙ sym (one (now (a .sheet)) (a .place) _ ea (omega arith) (omega arith))
 
 returns-5 : tie.Need-returns-5
 returns-5 c =
-    let a = c .before .before .before .before .before .before .before .before .before .before .args in
-    let ea = c .before .before .before .before .before .before .wide .ensures .0 in
-    let eb = c .before .before .wide2 .ensures .0 in
-    sym (two (now (a .sheet)) (a .place) _ _ _ ea eb refl (omega arith) (omega arith) (omega arith)
+    let second = c .before .before in
+    let first = second .before .before .before .before in
+    let a = first .before .before .before .before .args in
+    let ea = first .wide .ensures in
+    let eb = second .wide2 .ensures in
+    sym (two (now (a .sheet)) (a .place) _ ea _ eb (omega arith) (omega arith) (omega arith)
     ∙ groups-ended (now (a .sheet)) 16384 _ (a .place + 1 + 1) 2 (omega arith) (omega arith))
 
 returns-6 : tie.Need-returns-6
 returns-6 c =
-    let a = c .before .before .before .before .before .before .before .before .before .before .before .before .before .before .args in
-    let ea = c .before .before .before .before .before .before .before .before .before .before .wide .ensures .0 in
-    let eb = c .before .before .before .before .before .before .wide2 .ensures .0 in
-    let ed = c .before .before .wide3 .ensures .0 in
-    c .last-group2 .ensures ∙ last (now (a .sheet)) 16384 _ (a .place + 1 + 1) 2 _ (omega arith) (omega arith) (omega arith) ed (omega arith)
-    ∙ sym (two (now (a .sheet)) (a .place) _ _ _ ea eb refl (omega arith) (omega arith) (omega arith))
+    let third = c .before .before in
+    let second = third .before .before .before .before in
+    let first = second .before .before .before .before in
+    let a = first .before .before .before .before .args in
+    let ea = first .wide .ensures in
+    let eb = second .wide2 .ensures in
+    let ed = third .wide3 .ensures in
+    c .last-group2 .ensures
+    ∙ last (now (a .sheet)) 16384 _ (a .place + 1 + 1) 2 _ (omega arith) (omega arith) (omega arith) (ed .0) (omega arith)
+    ∙ sym (two (now (a .sheet)) (a .place) _ ea _ eb (omega arith) (omega arith) (omega arith))
 
 returns-7 : tie.Need-returns-7
 returns-7 c =
-    let a = c .before .before .before .before .before .before .before .before .before .before .before .before .before .before .args in
-    let ea = c .before .before .before .before .before .before .before .before .before .before .wide .ensures .0 in
-    let eb = c .before .before .before .before .before .before .wide2 .ensures .0 in
-    let ed = c .before .before .wide3 .ensures .0 in
-    sym (three (now (a .sheet)) (a .place) _ _ _ ea eb ed (omega arith) (omega arith) (omega arith) (omega arith)
+    let third = c .before .before in
+    let second = third .before .before .before .before in
+    let first = second .before .before .before .before in
+    let a = first .before .before .before .before .args in
+    let ea = first .wide .ensures in
+    let eb = second .wide2 .ensures in
+    let ed = third .wide3 .ensures in
+    sym (three (now (a .sheet)) (a .place) _ ea _ eb _ ed (omega arith) (omega arith) (omega arith) (omega arith)
     ∙ groups-ended (now (a .sheet)) 2097152 _ (a .place + 1 + 1 + 1) 1 (omega arith) (omega arith))
 
 returns-8 : tie.Need-returns-8
 returns-8 c =
-    let a = c .before .before .before .before .before .before .before .before .before .before .before .before .before .before .before .before .before .before .args in
-    let ea = c .before .before .before .before .before .before .before .before .before .before .before .before .before .before .wide .ensures .0 in
-    let eb = c .before .before .before .before .before .before .before .before .before .before .wide2 .ensures .0 in
-    let ed = c .before .before .before .before .before .before .wide3 .ensures .0 in
-    let ef = c .before .before .wide4 .ensures .0 in
-    c .last-group3 .ensures ∙ last (now (a .sheet)) 2097152 _ (a .place + 1 + 1 + 1) 1 _ (omega arith) (omega arith) (omega arith) ef (omega arith)
-    ∙ sym (three (now (a .sheet)) (a .place) _ _ _ ea eb ed (omega arith) (omega arith) (omega arith) (omega arith))
+    let fourth = c .before .before in
+    let third = fourth .before .before .before .before in
+    let second = third .before .before .before .before in
+    let first = second .before .before .before .before in
+    let a = first .before .before .before .before .args in
+    let ea = first .wide .ensures in
+    let eb = second .wide2 .ensures in
+    let ed = third .wide3 .ensures in
+    let ef = fourth .wide4 .ensures in
+    c .last-group3 .ensures
+    ∙ last (now (a .sheet)) 2097152 _ (a .place + 1 + 1 + 1) 1 _ (omega arith) (omega arith) (omega arith) (ef .0) (omega arith)
+    ∙ sym (three (now (a .sheet)) (a .place) _ ea _ eb _ ed (omega arith) (omega arith) (omega arith) (omega arith))
 
 returns-9 : tie.Need-returns-9
 returns-9 c =
-    let a = c .before .before .before .before .before .before .before .before .before .before .before .before .before .before .before .before .before .args in
-    let ea = c .before .before .before .before .before .before .before .before .before .before .before .before .before .wide .ensures .0 in
-    let eb = c .before .before .before .before .before .before .before .before .before .wide2 .ensures .0 in
-    let ed = c .before .before .before .before .before .wide3 .ensures .0 in
-    let ef = c .before .wide4 .ensures .0 in
-    sym (three (now (a .sheet)) (a .place) _ _ _ ea eb ed (omega arith) (omega arith) (omega arith) (omega arith)
-    ∙ groups-more (now (a .sheet)) 2097152 _ (a .place + 1 + 1 + 1) 1 (omega arith) (omega arith) (omega (arith, ef))
+    let fourth = c .before in
+    let third = fourth .before .before .before .before in
+    let second = third .before .before .before .before in
+    let first = second .before .before .before .before in
+    let a = first .before .before .before .before .args in
+    let ea = first .wide .ensures in
+    let eb = second .wide2 .ensures in
+    let ed = third .wide3 .ensures in
+    let ef = fourth .wide4 .ensures in
+    sym (three (now (a .sheet)) (a .place) _ ea _ eb _ ed (omega arith) (omega arith) (omega arith) (omega arith)
+    ∙ more (now (a .sheet)) 2097152 _ (a .place + 1 + 1 + 1) 1 _ (omega arith) ef (omega arith) (omega arith)
     ∙ groups-none (now (a .sheet)) _ _ (a .place + 1 + 1 + 1 + 1))
 
 pub number-at-spec : {M : Type 1} → statement M

@@ -23,7 +23,8 @@ one c = let l = c .before .before .loop in storing-one (l .y) (encodeIn-last (l 
 
 more : (c : tie.Else1 Inv-loop μ-loop)
     → let l = c .before .before .loop in let a = c .before .before .before .args in
-    Storing (set (l .output) (l .i) (l .y % 128 + 128)) (l .i + 1) (encodeIn (l .left - 1) (l .y / 128)) (now (a .output)) (a .place) (encode (a .x))
+    Storing (set (l .output) (l .i) (l .y % 128 + 128)) (l .i + 1) (encodeIn (l .left - 1) (l .y / 128))
+    (now (a .output)) (a .place) (encode (a .x))
 more c = let l = c .before .before .loop in storing-one _ (encodeIn-more (l .left) (l .y) (omega arith) (omega arith)) (l .inv)
 
 loop-holds : tie.Need-loop-holds Inv-loop μ-loop

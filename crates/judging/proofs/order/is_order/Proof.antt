@@ -34,7 +34,14 @@ loop-less : tie.Need-loop-less Inv-loop μ-loop
 loop-less c = search needs
 
 loop-again : tie.Need-loop-again Inv-loop μ-loop
-loop-again c = (search needs, λ g l. ⊎-elim (λ (q : g ≡ c .before .before .before .loop .f). rw q (sym (c .before .occurrences .ensures) ∙ c .if2 .left)) (λ q. c .before .before .before .loop .inv .1 g q) (eq-or-lt-of-le (let j : g ≤ c .before .before .before .loop .f = omega arith in j)))
+loop-again c =
+    let start = c .before .before .before .loop in (
+      search needs,
+      λ g l. ⊎-elim
+          (λ (q : g ≡ start .f). rw q (sym (c .before .occurrences .ensures) ∙ c .if2 .left))
+          (λ q. start .inv .1 g q)
+          (eq-or-lt-of-le (let j : g ≤ start .f = omega arith in j)),
+    )
 
 returns-3 : tie.Need-returns-3 Inv-loop μ-loop
 returns-3 c = order-right _ _ (c .before .before .if1 .left) (λ g l. c .before .loop .inv .1 g (search needs))

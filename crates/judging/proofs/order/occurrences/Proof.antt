@@ -34,16 +34,23 @@ loop-less : tie.Need-loop-less Inv-loop μ-loop
 loop-less c = search needs
 
 loop-again : tie.Need-loop-again Inv-loop μ-loop
-loop-again c = (search needs, search needs, counted _ _ _ _ (c .before .before .loop-test .taken) (c .before .before .before .loop .inv .2) (c .if1 .taken))
+loop-again c =
+    let turn = c .before .before in
+    (search needs, search needs, counted _ _ _ _ (turn .loop-test .taken) (turn .before .loop .inv .2) (c .if1 .taken))
 
 loop-less-2 : tie.Need-loop-less-2 Inv-loop μ-loop
 loop-less-2 c = search needs
 
 loop-again-2 : tie.Need-loop-again-2 Inv-loop μ-loop
-loop-again-2 c = (search needs, search needs, passed _ _ _ _ (c .before .before .loop-test .taken) (c .before .before .before .loop .inv .2) (c .if1 .left))
+loop-again-2 c =
+    let turn = c .before .before in
+    (search needs, search needs, passed _ _ _ _ (turn .loop-test .taken) (turn .before .loop .inv .2) (c .if1 .left))
 
 returns : tie.Need-returns Inv-loop μ-loop
-returns c = c .before .loop .inv .2 ∙ ap (occurrences (c .before .before .args .f)) (take-all (c .before .loop .q) (c .before .before .args .order .now) (search needs))
+returns c =
+    let end = c .before .loop in
+    let a = c .before .before .args in
+    end .inv .2 ∙ ap (occurrences (a .f)) (take-all (end .q) (a .order .now) (search needs))
 
 pub occurrences-spec : {M : Type 1} → statement M
 occurrences-spec =

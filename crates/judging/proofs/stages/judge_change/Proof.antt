@@ -21,14 +21,16 @@ returns-2 : tie.Need-returns-2
 unfolding view
 returns-2 c =
     let a = c .before .before in
-    first-next _ _ _ (sym (a .before .added-again .ensures) ∙ a .if1 .left) (first-applies _ _ _ (sym (c .before .withdrawn-unheld .ensures) ∙ c .if2 .taken))
+    first-next _ _ _ (sym (a .before .added-again .ensures) ∙ a .if1 .left)
+    (first-applies _ _ _ (sym (c .before .withdrawn-unheld .ensures) ∙ c .if2 .taken))
 
 returns-3 : tie.Need-returns-3
 unfolding view
 returns-3 c =
     let b = c .before .before in
     let a = b .before .before in
-    first-next _ _ _ (sym (a .before .added-again .ensures) ∙ a .if1 .left) (first-next _ _ _ (sym (b .before .withdrawn-unheld .ensures) ∙ b .if2 .left)
+    first-next _ _ _ (sym (a .before .added-again .ensures) ∙ a .if1 .left)
+    (first-next _ _ _ (sym (b .before .withdrawn-unheld .ensures) ∙ b .if2 .left)
     (first-applies _ _ _ (events-counted (a .before .before .before .args .session) _ ∙ eq-eqb _ mostEvents (c .if3 .taken))))
 
 returns-4 : tie.Need-returns-4
@@ -36,7 +38,8 @@ unfolding view
 returns-4 c =
     let b = c .before .before in
     let a = b .before .before in
-    first-next _ _ _ (sym (a .before .added-again .ensures) ∙ a .if1 .left) (first-next _ _ _ (sym (b .before .withdrawn-unheld .ensures) ∙ b .if2 .left)
+    first-next _ _ _ (sym (a .before .added-again .ensures) ∙ a .if1 .left)
+    (first-next _ _ _ (sym (b .before .withdrawn-unheld .ensures) ∙ b .if2 .left)
     (first-next _ _ _ (events-counted (a .before .before .before .args .session) _ ∙ ne-eqb _ mostEvents (c .if3 .left)) first-end))
 
 pub judge-change-spec : {M : Type 1} → statement M

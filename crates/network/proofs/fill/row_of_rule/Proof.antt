@@ -1,4 +1,4 @@
--- `row_of_rule` takes a mask of kind 0, or gathers the positions that the rule allows.
+-- `row_of_rule` takes the row of a mask of kind 0, or gathers the positions that the rule allows.
 use mathlib.Core.Path.{_≡_, sym, _∙_}
 use Prim.Native.Nat.{_≤_, _-_}
 use native.Mathlib.Omega.{arith}
@@ -23,10 +23,16 @@ kind-requires c κs = c .before .pre .0 .rule
 number-requires : tie.Need-number-requires Inv-loop μ-loop
 number-requires c κs = (c .before .before .pre .0 .rule, rw (c .before .before .pre .0 .first) at (c .before .before .pre .1))
 
+row-of-mask-requires : tie.Need-row-of-mask-requires Inv-loop μ-loop
+row-of-mask-requires c κs = search needs
+
 returns : tie.Need-returns Inv-loop μ-loop
 returns c =
-    let s = c .before .before .before .before in
-    row-mask _ _ _ _ _ _ _ (s .pre .0) _ _ (sym (c .before .before .kind .ensures) ∙ c .if1 .taken) (s .pre .1) (c .before .number .ensures)
+    let test = c .before in
+    let kind = test .before .before in
+    let s = kind .before .before in
+    c .row-of-mask .ensures
+    ∙ row-mask _ _ _ _ _ _ _ (s .pre .0) _ _ (sym (kind .kind .ensures) ∙ test .if1 .taken) (s .pre .1) (test .before .number .ensures)
 
 setting-at-requires : tie.Need-setting-at-requires Inv-loop μ-loop
 setting-at-requires c κs = (field-i _ _ _ _ _ _ _ (c .before .before .before .before .pre .0), c .before .before .before .before .pre .1)
@@ -111,6 +117,7 @@ row-of-rule-spec =
     μ-loop
     kind-requires
     number-requires
+    row-of-mask-requires
     returns
     setting-at-requires
     count-at-requires

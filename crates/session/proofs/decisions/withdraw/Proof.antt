@@ -19,7 +19,9 @@ element-write-r : tie.Need-element-write-r
 element-write-r c = search needs
 
 returns : tie.Need-returns
-returns c = rw (c .before .before .if1 .taken, c .clear-bit .ensures, lose-set (c .before .before .before .args .d .strikes) (c .before .before .before .args .f) (c .before .before .before .args .v))
+returns c =
+    let a = c .before .before .before .args in
+    rw (c .before .before .if1 .taken, c .clear-bit .ensures, lose-set (a .d .strikes) (a .f) (a .v))
 
 mul-clear-bit-2 : tie.Need-mul-clear-bit-2
 mul-clear-bit-2 c = search needs
@@ -37,7 +39,9 @@ element-write-r-2 : tie.Need-element-write-r-2
 element-write-r-2 c = search needs
 
 returns-2 : tie.Need-returns-2
-returns-2 c = rw (c .before .before .if1 .left, c .clear-bit2 .ensures, lose-set (c .before .before .before .args .d .choices) (c .before .before .before .args .f) (c .before .before .before .args .v))
+returns-2 c =
+    let a = c .before .before .before .args in
+    rw (c .before .before .if1 .left, c .clear-bit2 .ensures, lose-set (a .d .choices) (a .f) (a .v))
 
 pub withdraw-spec : {M : Type 1} → statement M
 withdraw-spec =

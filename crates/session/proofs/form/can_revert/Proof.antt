@@ -25,22 +25,26 @@ held-requires-4 c κs = search needs
 
 returns-2 : tie.Need-returns-2
 returns-2 c =
-    revert-addition _ _ _ _ (c .before .before .before .on-sheet .ensures) (not-false _ (c .before .before .if1 .left)) _ (on-choice _ _ _) _ (c .held .ensures)
+    let on = c .before .before in
+    revert-addition _ _ _ _ (on .before .on-sheet .ensures) (not-false _ (on .if1 .left)) _ (on-choice _ _ _) _ (c .held .ensures)
     (change-choose _ _ _ (c .before .match .keys1))
 
 returns-3 : tie.Need-returns-3
 returns-3 c =
-    revert-addition _ _ _ _ (c .before .before .before .on-sheet .ensures) (not-false _ (c .before .before .if1 .left)) _ (on-strike _ _ _) _ (c .held2 .ensures)
+    let on = c .before .before in
+    revert-addition _ _ _ _ (on .before .on-sheet .ensures) (not-false _ (on .if1 .left)) _ (on-strike _ _ _) _ (c .held2 .ensures)
     (change-strike _ _ _ (c .before .match .keys2))
 
 returns-4 : tie.Need-returns-4
 returns-4 c =
-    revert-withdrawal _ _ _ _ (c .before .before .before .on-sheet .ensures) (not-false _ (c .before .before .if1 .left)) _ (on-choice _ _ _) _ (c .held3 .ensures)
+    let on = c .before .before in
+    revert-withdrawal _ _ _ _ (on .before .on-sheet .ensures) (not-false _ (on .if1 .left)) _ (on-choice _ _ _) _ (c .held3 .ensures)
     (change-withdraw-choice _ _ _ (c .before .match .keys3))
 
 returns-5 : tie.Need-returns-5
 returns-5 c =
-    revert-withdrawal _ _ _ _ (c .before .before .before .on-sheet .ensures) (not-false _ (c .before .before .if1 .left)) _ (on-strike _ _ _) _ (c .held4 .ensures)
+    let on = c .before .before in
+    revert-withdrawal _ _ _ _ (on .before .on-sheet .ensures) (not-false _ (on .if1 .left)) _ (on-strike _ _ _) _ (c .held4 .ensures)
     (change-withdraw-strike _ _ _ (c .before .match .keys4))
 
 returns-6 : tie.Need-returns-6

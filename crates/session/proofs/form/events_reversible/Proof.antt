@@ -27,7 +27,10 @@ can-revert-requires : tie.Need-can-revert-requires Inv-loop μ-loop
 can-revert-requires c κs = search needs
 
 returns : tie.Need-returns Inv-loop μ-loop
-returns c = reversing-stuck _ _ _ _ _ _ (c .before .before .before .loop-test .taken) (c .before .before .before .before .loop .inv) _ (c .before .can-revert .ensures) (not-true _ (c .if1 .taken))
+returns c =
+    let turn = c .before .before .before in
+    reversing-stuck _ _ _ _ _ _ (turn .loop-test .taken) (turn .before .loop .inv) _
+    (c .before .can-revert .ensures) (not-true _ (c .if1 .taken))
 
 revert-requires : tie.Need-revert-requires Inv-loop μ-loop
 revert-requires c κs = c .before .can-revert .ensures .low (not-false _ (c .if1 .left))
@@ -36,7 +39,11 @@ loop-less : tie.Need-loop-less Inv-loop μ-loop
 loop-less c = search needs
 
 loop-again : tie.Need-loop-again Inv-loop μ-loop
-loop-again c = rw (c .revert .ensures) (reversing-next _ _ _ _ _ _ (c .before .before .before .before .loop-test .taken) (c .before .before .before .before .before .loop .inv) _ (c .before .before .can-revert .ensures) (not-false _ (c .before .if1 .left)))
+loop-again c =
+    let can = c .before in
+    let turn = can .before .before .before in
+    rw (c .revert .ensures) (reversing-next _ _ _ _ _ _ (turn .loop-test .taken) (turn .before .loop .inv) _
+    (can .before .can-revert .ensures) (not-false _ (can .if1 .left)))
 
 returns-2 : tie.Need-returns-2 Inv-loop μ-loop
 returns-2 c = reversing-end _ _ _ _ _ _ (let z : c .before .loop .k ≡ 0 = search needs in z) (c .before .loop .inv)

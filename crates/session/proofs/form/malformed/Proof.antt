@@ -22,7 +22,8 @@ masks-on-sheet-requires : tie.Need-masks-on-sheet-requires
 masks-on-sheet-requires c κs = search needs
 
 returns : tie.Need-returns
-returns c = ill-choices _ _ (long (c .before .before .before .before .before .before)) (no (c .before .masks-on-sheet .ensures) (c .if1 .taken))
+returns c =
+    ill-choices _ _ (long (c .before .before .before .before .before .before)) (no (c .before .masks-on-sheet .ensures) (c .if1 .taken))
 
 masks-on-sheet-requires-2 : tie.Need-masks-on-sheet-requires-2
 masks-on-sheet-requires-2 c κs = search needs
@@ -30,7 +31,8 @@ masks-on-sheet-requires-2 c κs = search needs
 returns-2 : tie.Need-returns-2
 returns-2 c =
     let a = c .before .before in
-    ill-strikes _ _ (long (a .before .before .before .before .before .before)) (yes (a .before .masks-on-sheet .ensures) (a .if1 .left)) (no (c .before .masks-on-sheet2 .ensures) (c .if2 .taken))
+    ill-strikes _ _ (long (a .before .before .before .before .before .before)) (yes (a .before .masks-on-sheet .ensures) (a .if1 .left))
+    (no (c .before .masks-on-sheet2 .ensures) (c .if2 .taken))
 
 returns-3 : tie.Need-returns-3
 returns-3 c =

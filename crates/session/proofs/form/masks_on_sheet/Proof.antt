@@ -33,7 +33,8 @@ within-requires : tie.Need-within-requires Inv-loop μ-loop
 within-requires c κs = search needs
 
 returns : tie.Need-returns Inv-loop μ-loop
-returns c = masks-off _ _ _ (c .before .before .loop-test .taken) (eqb-false _ 0 (sym (c .before .within .ensures) ∙ not-true _ (c .if1 .taken)))
+returns c = masks-off _ _ _ (c .before .before .loop-test .taken)
+    (eqb-false _ 0 (sym (c .before .within .ensures) ∙ not-true _ (c .if1 .taken)))
 
 add-f : tie.Need-add-f Inv-loop μ-loop
 add-f c = search needs
@@ -44,7 +45,9 @@ loop-less c = search needs
 loop-again : tie.Need-loop-again Inv-loop μ-loop
 loop-again c =
     let a = c .before .before .before .before .before .args in
-    (search needs, inside-next (a .outline .full) (a .t2) _ (c .before .before .before .loop .inv .1) (eqb-true _ 0 (sym (c .before .within .ensures) ∙ not-false _ (c .if1 .left))))
+    let inside = c .before .before .before .loop .inv .1 in
+    let within = sym (c .before .within .ensures) ∙ not-false _ (c .if1 .left) in
+    (search needs, inside-next (a .outline .full) (a .t2) _ inside (eqb-true _ 0 within))
 
 returns-2 : tie.Need-returns-2 Inv-loop μ-loop
 returns-2 c = masks-on _ _ (λ g l. c .before .loop .inv .1 g (search needs))

@@ -50,7 +50,9 @@ loop-less : tie.Need-loop-less Inv-loop μ-loop
 loop-less c = search needs
 
 loop-again : tie.Need-loop-again Inv-loop μ-loop
-loop-again c = (search needs, filling-next _ _ _ _ _ (c .before .loop-test .taken) (c .start-mask .ensures) (c .before .before .loop .inv .1))
+loop-again c =
+    let turn = c .before in
+    (search needs, filling-next _ _ _ _ _ (turn .loop-test .taken) (c .start-mask .ensures) (turn .before .loop .inv .1))
 
 returns : tie.Need-returns Inv-loop μ-loop
 returns c =

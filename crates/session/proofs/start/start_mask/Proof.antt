@@ -16,12 +16,14 @@ clear-bit-requires c κs = search needs
 returns-2 : tie.Need-returns-2
 returns-2 c =
     let s = c .before .before .before .before in
-    start-one _ _ _ (s .fits .all .fits) (s .fits .strikes .fits) _ (c .before .before .lowest-bit .ensures .0) (sym (c .before .clear-bit .ensures) ∙ c .if2 .taken)
+    start-one _ _ _ (s .fits .all .fits) (s .fits .strikes .fits) _ (c .before .before .lowest-bit .ensures .0)
+    (sym (c .before .clear-bit .ensures) ∙ c .if2 .taken)
 
 returns-3 : tie.Need-returns-3
 returns-3 c =
     let s = c .before .before .before .before in
-    start-none _ _ _ (s .fits .all .fits) (s .fits .strikes .fits) _ (c .before .before .lowest-bit .ensures .0) (λ z. c .if2 .left (c .before .clear-bit .ensures ∙ z))
+    start-none _ _ _ (s .fits .all .fits) (s .fits .strikes .fits) _ (c .before .before .lowest-bit .ensures .0)
+    (λ z. c .if2 .left (c .before .clear-bit .ensures ∙ z))
 
 pub start-mask-spec : {M : Type 1} → statement M
 start-mask-spec =

@@ -11,7 +11,8 @@ use Rattle.grammar.specs.Grammar.{start}
 use Rattle.grammar.specs.declared.grammar.State.{State}
 use Rattle.sheet.specs.Sources.{Item, meets, refusalFrom, numbers, itemsFrom, ofBytes, answered}
 use Rattle.sheet.specs.Items.{from-end, from-num, from-cut, from-ill, from-some}
-use Rattle.sheet.specs.Progress.{Going, going-on, going-end, going-refused, going-stays, refusalFrom-cut, refusalFrom-ill, numbers-num, numbers-none, advance-length}
+use Rattle.sheet.specs.Progress.{Going, going-on, going-end, going-refused, going-stays, refusalFrom-cut, refusalFrom-ill}
+use Rattle.sheet.specs.Progress.{numbers-num, numbers-none, advance-length}
 use Rattle.sheet.proofs.reading.check_with.Statement.{statement}
 use Rattle.sheet.proofs.reading.check_with.Tie as tie
 
@@ -25,32 +26,39 @@ abbrev μ-loop : tie.MeasureT-loop
 
 -- the number read, and the place after it
 found : (c : tie.After-number Inv-loop μ-loop)
-    → let l = c .before .before .before .before .before .before .before .loop in let s = now (c .before .before .before .before .before .before .before .before .before .before .args .sheet) in
+    → let turn = c .before .before .before .before .before .before .before in
+    let l = turn .loop in let s = now (turn .before .before .before .args .sheet) in
     numberAt s (l .place) ≡ Value (c .number .given .0 .0) (c .number .given .0 .1 .0)
 found c = sym (c .before .before .read-number .ensures) ∙ c .number .given .1
 
 onward : (c : tie.After-number Inv-loop μ-loop)
-    → let l = c .before .before .before .before .before .before .before .loop in let s = now (c .before .before .before .before .before .before .before .before .before .before .args .sheet) in
+    → let turn = c .before .before .before .before .before .before .before in
+    let l = turn .loop in let s = now (turn .before .before .before .args .sheet) in
     (l .place < c .number .given .0 .1 .0) × (c .number .given .0 .1 .0 ≤ length s)
 onward c = let l = c .before .before .before .before .before .before .before .loop in number-next _ (l .place) _ _ (omega arith) (found c)
 
 loop-holds : tie.Need-loop-holds Inv-loop μ-loop
 loop-holds c =
     let s = now (c .before .before .args .sheet) in
-    (record { judged = ap (λ (ds : List ℕ). refusalFrom start ds (ofBytes s)) (c .before .before .pre); size = omega arith }, refl, omega arith, omega arith)
+    let judged = ap (λ (ds : List ℕ). refusalFrom start ds (ofBytes s)) (c .before .before .pre) in
+    (record { judged = judged; size = omega arith }, refl, omega arith, omega arith)
 
 loop-again : tie.Need-loop-again Inv-loop μ-loop
 loop-again c =
-    let l = c .before .before .before .before .before .before .before .before .before .before .before .before .loop in
-    let s = now (c .before .before .before .before .before .before .before .before .before .before .before .before .before .before .before .args .sheet) in
-    let d = c .before .before .before .before .before in
-    let x = d .number .given .0 .0 in
-    let next = d .number .given .0 .1 .0 in
-    let st = c .before .before .before .before .before .before .before .before .before .state .given in
-    let on = onward d in
-    let from = from-num s (l .place) x next (omega arith) (found d) in
+    let read = c .before .before .before .before .before in
+    let told = read .before .before .before .before in
+    let turn = told .before .before .before in
+    let l = turn .loop in
+    let s = now (turn .before .before .before .args .sheet) in
+    let x = read .number .given .0 .0 in
+    let next = read .number .given .0 .1 .0 in
+    let left = itemsFrom s next in
+    let st = told .state .given in
+    let on = onward read in
+    let from = from-num s (l .place) x next (omega arith) (found read) in
     let done = c .before .before .advance .ensures in (
-      rw (done .0, done .1) (going-on (st .0 .0) (st .0 .1 .0) x (itemsFrom s next) (x ∷ []) (numbers (itemsFrom s next)) (st .1) from (ap numbers from ∙ numbers-num x _) (l .inv .0)),
+      rw (done .0, done .1)
+          (going-on (st .0 .0) (st .0 .1 .0) x left (x ∷ []) (numbers left) (st .1) from (ap numbers from ∙ numbers-num x _) (l .inv .0)),
       rw (done .1) (advance-length _ _ _ _ ∙ l .inv .1),
       omega arith,
       omega arith,
@@ -58,9 +66,11 @@ loop-again c =
 
 returns : tie.Need-returns Inv-loop μ-loop
 returns c =
-    let l = c .before .before .before .before .before .before .before .before .loop in
-    let s = now (c .before .before .before .before .before .before .before .before .before .before .before .args .sheet) in
-    let st = c .before .before .before .before .before .state .given in
+    let told = c .before .before .before .before .before in
+    let turn = told .before .before .before in
+    let l = turn .loop in
+    let s = now (turn .before .before .before .args .sheet) in
+    let st = told .state .given in
     c .answered .ensures
     ∙ going-refused 1 (omega arith)
     (ap₂ (λ (q : State) (is : List Item). refusalFrom q (l .counts) is) (st .1)
@@ -70,9 +80,11 @@ returns c =
 
 returns-2 : tie.Need-returns-2 Inv-loop μ-loop
 returns-2 c =
-    let l = c .before .before .before .before .before .before .before .before .loop in
-    let s = now (c .before .before .before .before .before .before .before .before .before .before .before .args .sheet) in
-    let st = c .before .before .before .before .before .state .given in
+    let told = c .before .before .before .before .before in
+    let turn = told .before .before .before in
+    let l = turn .loop in
+    let s = now (turn .before .before .before .args .sheet) in
+    let st = told .state .given in
     c .answered2 .ensures
     ∙ going-refused 2 (omega arith)
     (ap₂ (λ (q : State) (is : List Item). refusalFrom q (l .counts) is) (st .1)
@@ -85,21 +97,24 @@ returns-3 c =
     let l = c .before .before .before .before .loop in
     let s = now (c .before .before .before .before .before .before .before .args .sheet) in
     c .answered3 .ensures
-    ∙ going-stays 5 (omega arith) (λ f. ap (λ (q : State). meets q f) (c .before .enum-told3 .given .1)) (from-some s (l .place) (omega arith)) (l .inv .0)
+    ∙ going-stays 5 (omega arith) (λ f. ap (λ (q : State). meets q f) (c .before .enum-told3 .given .1))
+    (from-some s (l .place) (omega arith)) (l .inv .0)
 
 returns-4 : tie.Need-returns-4 Inv-loop μ-loop
 returns-4 c =
     let l = c .before .before .before .before .loop in
     let s = now (c .before .before .before .before .before .before .before .args .sheet) in
     c .answered4 .ensures
-    ∙ going-stays 3 (omega arith) (λ f. ap (λ (q : State). meets q f) (c .before .enum-told4 .given .1)) (from-some s (l .place) (omega arith)) (l .inv .0)
+    ∙ going-stays 3 (omega arith) (λ f. ap (λ (q : State). meets q f) (c .before .enum-told4 .given .1))
+    (from-some s (l .place) (omega arith)) (l .inv .0)
 
 returns-5 : tie.Need-returns-5 Inv-loop μ-loop
 returns-5 c =
     let l = c .before .before .before .before .loop in
     let s = now (c .before .before .before .before .before .before .before .args .sheet) in
     c .answered5 .ensures
-    ∙ going-stays 4 (omega arith) (λ f. ap (λ (q : State). meets q f) (c .before .enum-told5 .given .1)) (from-some s (l .place) (omega arith)) (l .inv .0)
+    ∙ going-stays 4 (omega arith) (λ f. ap (λ (q : State). meets q f) (c .before .enum-told5 .given .1))
+    (from-some s (l .place) (omega arith)) (l .inv .0)
 
 returns-6 : tie.Need-returns-6 Inv-loop μ-loop
 returns-6 c =

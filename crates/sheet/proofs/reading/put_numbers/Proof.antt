@@ -22,19 +22,19 @@ abbrev μ-loop : tie.MeasureT-loop
 
 -- the number read, the place after it, and what it leaves to write
 found : (c : tie.After-number Inv-loop μ-loop)
-    → let l = c .before .before .before .before .loop in let s = now (c .before .before .before .before .before .before .before .args .sheet) in
+    → let turn = c .before .before .before .before in let l = turn .loop in let s = now (turn .before .before .before .args .sheet) in
     numberAt s (l .place) ≡ Value (c .number .given .0 .0) (c .number .given .0 .1 .0)
 found c = sym (c .before .before .read-number .ensures) ∙ c .number .given .1
 
 onward : (c : tie.After-number Inv-loop μ-loop)
-    → let l = c .before .before .before .before .loop in let s = now (c .before .before .before .before .before .before .before .args .sheet) in
+    → let turn = c .before .before .before .before in let l = turn .loop in let s = now (turn .before .before .before .args .sheet) in
     (l .place < c .number .given .0 .1 .0) × (c .number .given .0 .1 .0 ≤ length s)
 onward c = let l = c .before .before .before .before .loop in number-next _ (l .place) _ _ (omega arith) (found c)
 
 one : (c : tie.After-number Inv-loop μ-loop)
-    → let l = c .before .before .before .before .loop in let a = c .before .before .before .before .before .before .before .args in
-    Storing (set (l .output) (l .k) (c .number .given .0 .0)) (l .k + 1) (numbers (itemsFrom (now (a .sheet)) (c .number .given .0 .1 .0))) (now (a .output)) 0
-    (numbers (ofBytes (now (a .sheet))))
+    → let turn = c .before .before .before .before in let l = turn .loop in let a = turn .before .before .before .args in
+    Storing (set (l .output) (l .k) (c .number .given .0 .0)) (l .k + 1) (numbers (itemsFrom (now (a .sheet)) (c .number .given .0 .1 .0)))
+    (now (a .output)) 0 (numbers (ofBytes (now (a .sheet))))
 one c =
     let l = c .before .before .before .before .loop in
     storing-one _ (ap numbers (from-num _ (l .place) _ _ (omega arith) (found c)) ∙ numbers-num _ _) (l .inv .0)
@@ -42,21 +42,21 @@ one c =
 returns : tie.Need-returns Inv-loop μ-loop
 returns c =
     let l = c .before .before .before .before .loop in
-    storing-done
-    (ap numbers (from-cut _ (l .place) (omega arith) (sym (c .before .before .read-number .ensures) ∙ c .enum-told .given .1)) ∙ numbers-none .1)
-    (l .inv .0)
+    let e = sym (c .before .before .read-number .ensures) ∙ c .enum-told .given .1 in
+    storing-done (ap numbers (from-cut _ (l .place) (omega arith) e) ∙ numbers-none .1) (l .inv .0)
 
 returns-2 : tie.Need-returns-2 Inv-loop μ-loop
 returns-2 c =
     let l = c .before .before .before .before .loop in
-    storing-done
-    (ap numbers (from-ill _ (l .place) (omega arith) (sym (c .before .before .read-number .ensures) ∙ c .enum-told2 .given .1)) ∙ numbers-none .2)
-    (l .inv .0)
+    let e = sym (c .before .before .read-number .ensures) ∙ c .enum-told2 .given .1 in
+    storing-done (ap numbers (from-ill _ (l .place) (omega arith) e) ∙ numbers-none .2) (l .inv .0)
 
 returns-3 : tie.Need-returns-3 Inv-loop μ-loop
 returns-3 c =
-    let l = c .before .loop in
-    storing-done (ap numbers (from-end (now (c .before .before .before .before .args .sheet)) (l .place) (omega arith)) ∙ numbers-none .0) (l .inv .0)
+    let turn = c .before in
+    let l = turn .loop in
+    let s = now (turn .before .before .before .args .sheet) in
+    storing-done (ap numbers (from-end s (l .place) (omega arith)) ∙ numbers-none .0) (l .inv .0)
 
 pub put-numbers-spec : {M : Type 1} → statement M
 put-numbers-spec =

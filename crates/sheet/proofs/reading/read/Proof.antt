@@ -7,22 +7,33 @@ use Rattle.sheet.proofs.reading.read.Statement.{statement}
 use Rattle.sheet.proofs.reading.read.Tie as tie
 
 returns : tie.Need-returns
-returns c = let a = c .before .before .before .before .before .args in gives-refused (ofBytes (now (a .sheet))) (numbers (ofBytes (now (a .sheet)))) (now (a .output)) _ (c .before .before .check .ensures) (c .if1 .taken)
+returns c =
+    let checked = c .before .before in
+    let a = checked .before .before .before .args in
+    let is = ofBytes (now (a .sheet)) in
+    gives-refused is (numbers is) (now (a .output)) _ (checked .check .ensures) (c .if1 .taken)
 
 returns-2 : tie.Need-returns-2
 returns-2 c =
-    let a = c .before .before .before .before .before .before .before .before .args in
-    gives-short (ofBytes (now (a .sheet))) (numbers (ofBytes (now (a .sheet)))) (now (a .output)) _ (c .before .before .before .before .before .check .ensures) _ (omega arith) (omega arith) (c .answered .ensures)
+    let checked = c .before .before .before .before .before in
+    let a = checked .before .before .before .args in
+    let is = ofBytes (now (a .sheet)) in
+    gives-short is (numbers is) (now (a .output)) _ (checked .check .ensures) _ (omega arith) (omega arith) (c .answered .ensures)
 
 put-numbers-requires : tie.Need-put-numbers-requires
 put-numbers-requires c κs =
-    let a = c .before .before .before .before .before .before .before .before .args in
-    gives-room (ofBytes (now (a .sheet))) (numbers (ofBytes (now (a .sheet)))) (now (a .output)) _ (c .before .before .before .before .before .check .ensures) (omega arith) (omega arith)
+    let checked = c .before .before .before .before .before in
+    let a = checked .before .before .before .args in
+    let is = ofBytes (now (a .sheet)) in
+    gives-room is (numbers is) (now (a .output)) _ (checked .check .ensures) (omega arith) (omega arith)
 
 returns-3 : tie.Need-returns-3
 returns-3 c =
-    let a = c .before .before .before .before .before .before .before .before .before .before .before .args in
-    gives-values (ofBytes (now (a .sheet))) (numbers (ofBytes (now (a .sheet)))) (now (a .output)) _ (c .before .before .before .before .before .before .before .before .check .ensures) _ (omega arith) (omega arith) (c .before .before .put-numbers .ensures)
+    let put = c .before .before in
+    let checked = put .before .before .before .before .before .before in
+    let a = checked .before .before .before .args in
+    let is = ofBytes (now (a .sheet)) in
+    gives-values is (numbers is) (now (a .output)) _ (checked .check .ensures) _ (omega arith) (omega arith) (put .put-numbers .ensures)
 
 pub read-spec : {M : Type 1} → statement M
 read-spec =

@@ -24,16 +24,21 @@ abbrev μ-loop : tie.MeasureT-loop
 loop-holds : tie.Need-loop-holds Inv-loop μ-loop
 loop-holds c =
     let xs = now (c .before .before .args .numbers) in
-    (record { judged = ap (λ (ds : List ℕ). refusalFrom start ds (ofNumbers xs)) (c .before .before .pre); size = omega arith }, refl, omega arith, omega arith)
+    let judged = ap (λ (ds : List ℕ). refusalFrom start ds (ofNumbers xs)) (c .before .before .pre) in
+    (record { judged = judged; size = omega arith }, refl, omega arith, omega arith)
 
 loop-again : tie.Need-loop-again Inv-loop μ-loop
 loop-again c =
-    let l = c .before .before .before .before .before .before .before .before .before .before .loop in
-    let xs = now (c .before .before .before .before .before .before .before .before .before .before .before .before .before .args .numbers) in
-    let st = c .before .before .before .before .before .before .before .state .given in
+    let told = c .before .before .before .before .before .before .before in
+    let turn = told .before .before .before in
+    let l = turn .loop in
+    let xs = now (turn .before .before .before .args .numbers) in
+    let x = getD xs (l .k) 0 in
+    let left = drop (l .k + 1) xs in
+    let st = told .state .given in
     let done = c .before .before .before .advance .ensures in (
       rw (done .0, done .1, c .size .ensures .0)
-          (going-on (st .0 .0) (st .0 .1 .0) (getD xs (l .k) 0) (ofNumbers (drop (l .k + 1) xs)) (encode (getD xs (l .k) 0)) (bytesOf (drop (l .k + 1) xs)) (st .1)
+          (going-on (st .0 .0) (st .0 .1 .0) x (ofNumbers left) (encode x) (bytesOf left) (st .1)
           (items-next xs (l .k) (omega arith)) (bytes-next xs (l .k) (omega arith)) (l .inv .0)),
       rw (done .1) (advance-length _ _ _ _ ∙ l .inv .1),
       omega arith,
@@ -45,21 +50,24 @@ returns c =
     let l = c .before .before .before .before .loop in
     let xs = now (c .before .before .before .before .before .before .before .args .numbers) in
     c .answered .ensures
-    ∙ going-stays 5 (omega arith) (λ f. ap (λ (q : State). meets q f) (c .before .enum-told .given .1)) (omega (arith, ap length (items-next xs (l .k) (omega arith)))) (l .inv .0)
+    ∙ going-stays 5 (omega arith) (λ f. ap (λ (q : State). meets q f) (c .before .enum-told .given .1))
+    (omega (arith, ap length (items-next xs (l .k) (omega arith)))) (l .inv .0)
 
 returns-2 : tie.Need-returns-2 Inv-loop μ-loop
 returns-2 c =
     let l = c .before .before .before .before .loop in
     let xs = now (c .before .before .before .before .before .before .before .args .numbers) in
     c .answered2 .ensures
-    ∙ going-stays 3 (omega arith) (λ f. ap (λ (q : State). meets q f) (c .before .enum-told2 .given .1)) (omega (arith, ap length (items-next xs (l .k) (omega arith)))) (l .inv .0)
+    ∙ going-stays 3 (omega arith) (λ f. ap (λ (q : State). meets q f) (c .before .enum-told2 .given .1))
+    (omega (arith, ap length (items-next xs (l .k) (omega arith)))) (l .inv .0)
 
 returns-3 : tie.Need-returns-3 Inv-loop μ-loop
 returns-3 c =
     let l = c .before .before .before .before .loop in
     let xs = now (c .before .before .before .before .before .before .before .args .numbers) in
     c .answered3 .ensures
-    ∙ going-stays 4 (omega arith) (λ f. ap (λ (q : State). meets q f) (c .before .enum-told3 .given .1)) (omega (arith, ap length (items-next xs (l .k) (omega arith)))) (l .inv .0)
+    ∙ going-stays 4 (omega arith) (λ f. ap (λ (q : State). meets q f) (c .before .enum-told3 .given .1))
+    (omega (arith, ap length (items-next xs (l .k) (omega arith)))) (l .inv .0)
 
 returns-4 : tie.Need-returns-4 Inv-loop μ-loop
 returns-4 c =

@@ -11,7 +11,8 @@ use Rattle.sheet.proofs.writing.put_bytes.Statement.{statement}
 use Rattle.sheet.proofs.writing.put_bytes.Tie as tie
 
 abbrev Inv-loop : tie.InvT-loop
-Inv-loop numbers output₀ k₀ place₀ output k place = Storing output place (bytesOf (drop k numbers)) output₀ 0 (bytesOf numbers) × (k ≤ length numbers)
+Inv-loop numbers output₀ k₀ place₀ output k place =
+    Storing output place (bytesOf (drop k numbers)) output₀ 0 (bytesOf numbers) × (k ≤ length numbers)
 
 abbrev μ-loop : tie.MeasureT-loop
 μ-loop numbers output₀ k₀ place₀ output k place = length numbers - k
@@ -31,7 +32,9 @@ loop-again c =
     (rw (q .0) (storing-part (encode (getD xs (l .k) 0)) _ (bytes-next xs (l .k) (omega arith)) (q .1) (l .inv .0)), omega arith)
 
 returns : tie.Need-returns Inv-loop μ-loop
-returns c = let l = c .before .loop in storing-done (bytes-end (now (c .before .before .before .before .args .numbers)) (l .k) (omega arith)) (l .inv .0)
+returns c =
+    let l = c .before .loop in
+    storing-done (bytes-end (now (c .before .before .before .before .args .numbers)) (l .k) (omega arith)) (l .inv .0)
 
 pub put-bytes-spec : {M : Type 1} → statement M
 put-bytes-spec =

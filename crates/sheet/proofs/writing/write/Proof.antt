@@ -7,22 +7,35 @@ use Rattle.sheet.proofs.writing.write.Statement.{statement}
 use Rattle.sheet.proofs.writing.write.Tie as tie
 
 returns : tie.Need-returns
-returns c = let a = c .before .before .before .before .before .args in gives-refused (ofNumbers (now (a .numbers))) (bytesOf (now (a .numbers))) (now (a .output)) _ (c .before .before .check .ensures) (c .if1 .taken)
+returns c =
+    let checked = c .before .before in
+    let a = checked .before .before .before .args in
+    let xs = now (a .numbers) in
+    gives-refused (ofNumbers xs) (bytesOf xs) (now (a .output)) _ (checked .check .ensures) (c .if1 .taken)
 
 returns-2 : tie.Need-returns-2
 returns-2 c =
-    let a = c .before .before .before .before .before .before .before .before .args in
-    gives-short (ofNumbers (now (a .numbers))) (bytesOf (now (a .numbers))) (now (a .output)) _ (c .before .before .before .before .before .check .ensures) _ (omega arith) (omega arith) (c .answered .ensures)
+    let checked = c .before .before .before .before .before in
+    let a = checked .before .before .before .args in
+    let xs = now (a .numbers) in
+    gives-short (ofNumbers xs) (bytesOf xs) (now (a .output)) _ (checked .check .ensures) _
+    (omega arith) (omega arith) (c .answered .ensures)
 
 put-bytes-requires : tie.Need-put-bytes-requires
 put-bytes-requires c κs =
-    let a = c .before .before .before .before .before .before .before .before .args in
-    gives-room (ofNumbers (now (a .numbers))) (bytesOf (now (a .numbers))) (now (a .output)) _ (c .before .before .before .before .before .check .ensures) (omega arith) (omega arith)
+    let checked = c .before .before .before .before .before in
+    let a = checked .before .before .before .args in
+    let xs = now (a .numbers) in
+    gives-room (ofNumbers xs) (bytesOf xs) (now (a .output)) _ (checked .check .ensures) (omega arith) (omega arith)
 
 returns-3 : tie.Need-returns-3
 returns-3 c =
-    let a = c .before .before .before .before .before .before .before .before .before .before .before .args in
-    gives-values (ofNumbers (now (a .numbers))) (bytesOf (now (a .numbers))) (now (a .output)) _ (c .before .before .before .before .before .before .before .before .check .ensures) _ (omega arith) (omega arith) (c .before .before .put-bytes .ensures)
+    let put = c .before .before in
+    let checked = put .before .before .before .before .before .before in
+    let a = checked .before .before .before .args in
+    let xs = now (a .numbers) in
+    gives-values (ofNumbers xs) (bytesOf xs) (now (a .output)) _ (checked .check .ensures) _
+    (omega arith) (omega arith) (put .put-bytes .ensures)
 
 pub write-spec : {M : Type 1} → statement M
 write-spec =

@@ -1,0 +1,46 @@
+//! The sample page of three passes: its bytes are those of its list of numbers, and its offers are those of the definitions.
+
+use belaykeel::{Engine, Order, Session, Sheet, WorkSpaces};
+use solver::reading::sheet;
+use solver::{Network, Set};
+use std::fmt::Write;
+use std::fs;
+use tests::text::numbers;
+
+fn sample(ending: &str) -> Vec<u8> {
+    fs::read(format!("{}/../../samples/three-pass.{ending}", env!("CARGO_MANIFEST_DIR"))).expect("a sample")
+}
+
+fn text(ending: &str) -> String {
+    String::from_utf8(sample(ending)).expect("a text")
+}
+
+#[test]
+fn bytes_of_the_list() {
+    let list = numbers(&text("txt"));
+    assert_eq!(Sheet::write(&list).expect("a sheet").as_bytes(), sample("bin"));
+    assert_eq!(Sheet::from_bytes(sample("bin")).read(), Ok(list));
+}
+
+/// Closing the page takes settings from five fields, and the tests of single settings take more from four.
+#[test]
+fn offers_of_the_definitions() {
+    let page = sheet(&sample("bin")).expect("a sheet");
+    let network = Network::of(&page);
+    let every: Vec<usize> = (0..page.fields()).collect();
+    let [closed, offers] = [network.closing(network.full, &every), network.offers(network.full)];
+    for engine in Engine::ALL {
+        let (bytes, mut spaces) = (Sheet::from_bytes(sample("bin")), WorkSpaces::new());
+        let opened = Session::default().open(&bytes, engine, &Order::Rising, &mut spaces).expect("the offers");
+        assert_eq!(opened.masks(), &offers[..page.fields()]);
+    }
+    let fewer = |less: &Set, more: &Set| every.iter().filter(|&&field| less[field].count_ones() < more[field].count_ones()).count();
+    assert_eq!((fewer(&closed, &network.full), fewer(&offers, &closed)), (5, 4));
+    let mut printed = String::new();
+    for (field, settings) in page.settings.iter().enumerate() {
+        let offered = settings.iter().enumerate().filter(|(position, _)| offers[field] >> position & 1 == 1);
+        let line: String = offered.map(|(_, setting)| format!(" {setting}")).collect();
+        writeln!(printed, "{field}:{line}").expect("a line");
+    }
+    assert_eq!(printed, text("out"));
+}
