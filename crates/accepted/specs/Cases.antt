@@ -1,12 +1,13 @@
 -- Worked cases of the sheet, computed from the definitions. Assumes nothing.
 use mathlib.Core.Path.{_≡_, refl}
-use mathlib.Core.List.{List, [], _∷_}
-use Prim.Native.Nat.{ℕ, _+_}
+use mathlib.Core.Bool.{Bool, true, false}
+use mathlib.Core.List.{List, [], _∷_, _++_}
+use Prim.Native.Nat.{ℕ}
 use Rattle.masks.specs.Pick.{pick}
 use Rattle.groups.specs.Groups.{groups, numberAt, encode, encodeIn}
-use Rattle.limits.specs.Limits.{largestSetting}
 use Rattle.grammar.specs.Grammar.{advance}
-use Rattle.sheet.specs.Sources.{refusalFrom, refusal, numbers, items, ofBytes, ofNumbers, bytesOf}
+use Rattle.sheet.specs.Sources.{Item, refusalFrom, refusal, numbers, items, ofBytes, ofNumbers, bytesOf}
+use Rattle.accepted.specs.Kinds.{allows}
 
 -- sheet D, in bytes and in numbers
 abbrev pub D : List ℕ
@@ -26,10 +27,56 @@ pub refused-groups : (refusal (ofBytes (0x80 ∷ 0x00 ∷ [])) ≡ 2) × (refusa
 unfolding refusalFrom items numberAt groups pick advance
 refused-groups = (refl, refl, refl, refl)
 
--- the largest setting and one more; 25 fields; a setting twice; i = j; a number after the last rule
-pub refused-numbers : (refusal (ofNumbers (1 ∷ 1 ∷ largestSetting ∷ 24 ∷ 0 ∷ [])) ≡ 0)
-    × (refusal (ofNumbers (1 ∷ 1 ∷ (largestSetting + 1) ∷ 24 ∷ 0 ∷ [])) ≡ 3)
-    × (refusal (ofNumbers (25 ∷ [])) ≡ 3) × (refusal (ofNumbers (1 ∷ 2 ∷ 5 ∷ 5 ∷ [])) ≡ 4)
+-- 25 fields; a setting twice; i = j; a number after the last rule
+pub refused-numbers : (refusal (ofNumbers (25 ∷ [])) ≡ 3) × (refusal (ofNumbers (1 ∷ 2 ∷ 5 ∷ 5 ∷ [])) ≡ 4)
     × (refusal (ofNumbers (2 ∷ 1 ∷ 5 ∷ 1 ∷ 5 ∷ 1 ∷ 1 ∷ 1 ∷ 1 ∷ [])) ≡ 4) × (refusal (ofNumbers (1 ∷ 1 ∷ 5 ∷ 24 ∷ 0 ∷ 0 ∷ [])) ≡ 5)
 unfolding refusalFrom pick advance
-refused-numbers = (refl, refl, refl, refl, refl, refl)
+refused-numbers = (refl, refl, refl, refl)
+
+-- ---- the largest setting and the largest c (02, request 3)
+
+-- One field with the setting x, and two fields with a rule of a kind with c. Their other numbers have one group, so that this is a list of
+-- numbers where x and c are numbers, and bytes where they are groups.
+abbrev withSetting : List ℕ → List ℕ
+withSetting x = 1 ∷ 1 ∷ (x ++ 24 ∷ 0 ∷ [])
+
+abbrev withAmount : ℕ → List ℕ → List ℕ
+withAmount kind c = 2 ∷ 1 ∷ 0 ∷ 1 ∷ 0 ∷ 24 ∷ 1 ∷ 0 ∷ 1 ∷ kind ∷ c
+
+-- the refusals of a number as a setting, and as the c of the kinds 1 to 5
+abbrev refusals : (List ℕ → List Item) → List ℕ → List ℕ
+refusals source x =
+    refusal (source (withSetting x)) ∷ refusal (source (withAmount 1 x)) ∷ refusal (source (withAmount 2 x))
+    ∷ refusal (source (withAmount 3 x)) ∷ refusal (source (withAmount 4 x)) ∷ refusal (source (withAmount 5 x)) ∷ []
+
+-- 1,000,000 is read, 1,000,001 is not; in numbers, then in bytes
+pub largest-setting : (refusals ofNumbers (1000000 ∷ []) ≡ 0 ∷ 0 ∷ 0 ∷ 0 ∷ 0 ∷ 0 ∷ [])
+    × (refusals ofNumbers (1000001 ∷ []) ≡ 3 ∷ 3 ∷ 3 ∷ 3 ∷ 3 ∷ 3 ∷ [])
+    × (refusals ofBytes (0xC0 ∷ 0x84 ∷ 0x3D ∷ []) ≡ 0 ∷ 0 ∷ 0 ∷ 0 ∷ 0 ∷ 0 ∷ [])
+    × (refusals ofBytes (0xC1 ∷ 0x84 ∷ 0x3D ∷ []) ≡ 3 ∷ 3 ∷ 3 ∷ 3 ∷ 3 ∷ 3 ∷ [])
+unfolding refusalFrom items numberAt groups pick advance
+largest-setting = (refl, refl, refl, refl)
+
+-- ---- what the kinds allow near 65,536 and near 1,000,000
+
+-- whether a rule of a kind, not 0, allows the settings p and q: their positions do not matter
+abbrev pair : (kind c p q : ℕ) → Bool
+pair kind c p q = allows kind c p q 0
+
+-- q + c and p + c do not wrap: neither at 65,536 nor at 1,000,000
+pub sums-whole : (pair 1 1 65536 65535 ≡ true) × (pair 1 1 0 65535 ≡ false) × (pair 1 1000000 1000000 0 ≡ true)
+    × (pair 1 1000000 1000000 1 ≡ false) × (pair 1 1000000 1000000 1000000 ≡ false)
+    × (pair 2 1 65535 65536 ≡ true) × (pair 2 1 65535 0 ≡ false) × (pair 2 1000000 0 1000000 ≡ true)
+    × (pair 2 1000000 1 1000000 ≡ false) × (pair 2 1000000 1000000 1000000 ≡ false)
+unfolding pick
+sums-whole = (refl, refl, refl, refl, refl, refl, refl, refl, refl, refl)
+
+-- so for the distance
+pub distances-whole : (pair 3 65536 65536 0 ≡ true) × (pair 3 65536 0 65535 ≡ false)
+    × (pair 3 1000000 0 1000000 ≡ true) × (pair 3 1000000 1000000 1 ≡ false)
+    × (pair 4 65535 0 65535 ≡ true) × (pair 4 65535 65536 0 ≡ false)
+    × (pair 4 999999 1 1000000 ≡ true) × (pair 4 999999 1000000 0 ≡ false)
+    × (pair 5 65536 0 65536 ≡ true) × (pair 5 0 65536 0 ≡ false)
+    × (pair 5 1000000 1000000 0 ≡ true) × (pair 5 1000000 0 999997 ≡ false)
+unfolding pick
+distances-whole = (refl, refl, refl, refl, refl, refl, refl, refl, refl, refl, refl, refl)

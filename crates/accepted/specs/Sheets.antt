@@ -44,13 +44,14 @@ pub data Below (b : ℕ) : List ℕ → Type 0 where
   below-none : Below b []
   below-one : {x : ℕ} {xs : List ℕ} → x < b → Below b xs → Below b (x ∷ xs)
 
--- 1 to 24 settings, 0 to 65,535, strictly rising
+-- 1 to 24 settings, each at most the largest one, strictly rising
 pub record FieldRight (f : List ℕ) : Type 0 where
   pub some : 1 ≤ length f
   pub few : length f ≤ mostSettings
   pub rise : Rises 0 f
 
--- a rule's numbers, with d the counts of the fields: for kind 0, d of i masks, each below 2 to the power d of j; else c, 0 to 65,535
+-- a rule's numbers, with d the counts of the fields: for kind 0, d of i masks, each below 2 to the power d of j; else c, at most the
+-- largest setting
 abbrev pub ValuesRight : (ℕ → ℕ) → Rule → Type 0
 ValuesRight d r = ((r .kind ≡ 0) × (length (r .values) ≡ d (r .i)) × Below (2 ^ d (r .j)) (r .values))
     ⊎ ((r .kind ≡ 0 → ⊥) × (length (r .values) ≡ 1) × Below (largestSetting + 1) (r .values))

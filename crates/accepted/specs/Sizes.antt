@@ -41,6 +41,10 @@ groups-three x h = go (ltb x 16384) refl
     go true p = omega (arith, groups-two x (ltb-true x 16384 p))
     go false p = omega (arith, size-3 x (ltb-false x 16384 p) h)
 
+-- three groups hold each setting, and each c
+pub setting-groups : (x : ℕ) → x ≤ largestSetting → length (encode x) ≤ 3
+setting-groups x h = groups-three x (omega arith)
+
 -- ---- lists of at most `most` numbers, each below 2 ^ 28, and at most `room` bytes
 
 pub record Sized (room most : ℕ) (xs : List ℕ) : Type 0 where
@@ -90,7 +94,7 @@ sized-rises : (floor : ℕ) (xs : List ℕ) → Rises floor xs → Sized (3 * le
 sized-rises floor xs rises-none = sized-none
 sized-rises floor xs (rises-one {x = x} {xs = ys} p q t) =
     sized-more (3 + 3 * length ys) (suc (length ys)) _ _ (x ∷ ys) (omega arith) (omega arith)
-    (sized-one 3 _ _ x ys (groups-three x (omega arith)) (omega arith) (sized-rises (x + 1) ys t))
+    (sized-one 3 _ _ x ys (setting-groups x q) (omega arith) (sized-rises (x + 1) ys t))
 
 sized-below : (b : ℕ) (xs : List ℕ) → b ≤ 2 ^ mostSettings → Below b xs → Sized (4 * length xs) (length xs) xs
 sized-below b xs h below-none = sized-none

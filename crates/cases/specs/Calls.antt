@@ -1,4 +1,4 @@
--- The sheets and calls that the starred cases speak of. Assumes nothing.
+-- The sheets and calls that the cases speak of. Assumes nothing.
 use mathlib.Core.List.{List, [], _∷_}
 use Prim.Native.Nat.{ℕ}
 use Rattle.limits.specs.Limits.{offersWords, rowsWords, memoryWords}
@@ -31,6 +31,12 @@ afterAll g l (c ∷ cs) = afterAll g (after g c l) cs
 -- one field with the setting 300 and no rule
 abbrev pub single : List ℕ
 single = 0x01 ∷ 0x01 ∷ 0xAC ∷ 0x02 ∷ 0x18 ∷ 0x00 ∷ []
+
+-- fields {0, 65,536, 1,000,000} and {65,535, 999,999}, and a rule of a kind with c, given by its groups
+abbrev pub edges : ℕ → List ℕ → List ℕ
+edges kind c =
+    0x02 ∷ 0x03 ∷ 0x00 ∷ 0x80 ∷ 0x80 ∷ 0x04 ∷ 0xC0 ∷ 0x84 ∷ 0x3D ∷ 0x02 ∷ 0xFF ∷ 0xFF ∷ 0x03 ∷ 0xBF ∷ 0x84 ∷ 0x3D
+    ∷ 0x18 ∷ 0x01 ∷ 0x00 ∷ 0x01 ∷ kind ∷ c
 
 -- three fields {1, 2}, all pairs of kind 3 with c 1, at a reach
 abbrev pub three : ℕ → List ℕ

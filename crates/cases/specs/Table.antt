@@ -1,4 +1,5 @@
--- The starred cases of the scope (01, 'Trials at the mill'), one table under one theorem that the checker computes. Assumes nothing.
+-- The starred cases of the scope (01, 'Trials at the mill') and cases of the requests (02), one table under one theorem that the checker
+-- computes. Assumes nothing.
 use mathlib.Core.Path.{_≡_, refl}
 use mathlib.Core.Bool.{Bool, true, false, not, _&&_}
 use mathlib.Core.List.{List, [], _∷_}
@@ -29,7 +30,7 @@ use Rattle.ledger.specs.Ledger.{CHOOSE, STRIKE, WITHDRAW-STRIKE, changeBy, deci
 use Rattle.ledger.specs.Ledger.{otherChosen, starts, startSet, offersOf, wiped, spaceShort, onSheet, allOnSheet, reversible, malformed}
 use Rattle.ledger.specs.Ledger.{noEngine, isOrder, first, judged, causes, number, after}
 use Rattle.cases.specs.Problems.{allDifferent, ring}
-use Rattle.cases.specs.Calls.{given, answers, afterAll, single, three, threeAndOne, five}
+use Rattle.cases.specs.Calls.{given, answers, afterAll, single, edges, three, threeAndOne, five}
 
 pub data Case : Type 0 where
   -- a problem, a reach, a set; its closing over every field, its offers, and whether it is wiped out
@@ -94,6 +95,18 @@ table =
     ∷ shown (five 1) (Open ∷ []) (0 ∷ []) (3 ∷ 3 ∷ 3 ∷ 3 ∷ 3 ∷ [])
     ∷ calls (five 2) (Open ∷ []) (14 ∷ [])
     ∷ calls (threeAndOne 1) (Open ∷ []) (14 ∷ [])
+    -- 02, request 3: settings and c near 65,536 and near 1,000,000. Kinds 1 and 2, c 1, where sums that wrap at either would offer all;
+    -- kind 1, c 1,000,000, where no pair is allowed
+    ∷ shown (edges 1 (0x01 ∷ [])) (Open ∷ []) (0 ∷ []) (6 ∷ 3 ∷ [])
+    ∷ shown (edges 2 (0x01 ∷ [])) (Open ∷ []) (0 ∷ []) (3 ∷ 3 ∷ [])
+    ∷ calls (edges 1 (0xC0 ∷ 0x84 ∷ 0x3D ∷ [])) (Open ∷ []) (14 ∷ [])
+    -- kind 3, c 934,465; kind 4, c 1 and c 1,000,000; kind 5, c 999,999
+    ∷ shown (edges 3 (0xC1 ∷ 0x84 ∷ 0x39 ∷ [])) (Open ∷ []) (0 ∷ []) (5 ∷ 3 ∷ [])
+    ∷ shown (edges 4 (0x01 ∷ [])) (Open ∷ []) (0 ∷ []) (6 ∷ 3 ∷ [])
+    ∷ shown (edges 4 (0xC0 ∷ 0x84 ∷ 0x3D ∷ [])) (Open ∷ []) (0 ∷ []) (7 ∷ 3 ∷ [])
+    ∷ shown (edges 5 (0xBF ∷ 0x84 ∷ 0x3D ∷ [])) (Open ∷ []) (0 ∷ []) (1 ∷ 2 ∷ [])
+    -- c of one more than 1,000,000
+    ∷ calls (edges 1 (0xC1 ∷ 0x84 ∷ 0x3D ∷ [])) (Open ∷ []) (3 ∷ [])
     ∷ []
 
 -- THE THEOREM: every case of the table holds.

@@ -1,4 +1,4 @@
--- The limits of 01, each named once. Assumes nothing.
+-- The limits of 01, as 02 moved them, each named once. Assumes nothing.
 use Prim.Native.Nat.{ℕ}
 
 -- fields n, 1 to 24
@@ -9,9 +9,9 @@ mostFields = 24
 abbrev pub mostSettings : ℕ
 mostSettings = 24
 
--- a setting, and the number c of a rule, in micrometres, 0 to 65,535
+-- a setting, and the number c of a rule, in micrometres, 0 to 1,000,000 (02, request 3)
 abbrev pub largestSetting : ℕ
-largestSetting = 65535
+largestSetting = 1000000
 
 -- the reach, 1 to 24; at 24 the neighbourhood of a field is every field and every rule
 abbrev pub wholeReach : ℕ

@@ -8,7 +8,7 @@ use Rattle.accepted.specs.Parts.{fieldStart}
 use Rattle.accepted.specs.Cases.{numbersOfD}
 use Rattle.printing.specs.Text.{digits, decimal, offered, blankEach, line, lines, refusedLine, text}
 
-pub numerals : (decimal 0 ≡ 48 ∷ []) × (decimal 10 ≡ 49 ∷ 48 ∷ []) × (decimal 65535 ≡ 54 ∷ 53 ∷ 53 ∷ 51 ∷ 53 ∷ [])
+pub numerals : (decimal 0 ≡ 48 ∷ []) × (decimal 10 ≡ 49 ∷ 48 ∷ []) × (decimal 1000000 ≡ 49 ∷ 48 ∷ 48 ∷ 48 ∷ 48 ∷ 48 ∷ 48 ∷ [])
     × (decimal 4294967295 ≡ 52 ∷ 50 ∷ 57 ∷ 52 ∷ 57 ∷ 54 ∷ 55 ∷ 50 ∷ 57 ∷ 53 ∷ [])
 unfolding decimal digits pick
 numerals = (refl, refl, refl, refl)

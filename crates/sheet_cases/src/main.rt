@@ -2,6 +2,7 @@
 ghost use mathlib.Core.Path.{_≡_};
 ghost use lib.ListN.{length};
 use libc::STDOUT_FILENO;
+use limits::LARGEST_SETTING;
 use limits::MOST_BYTES;
 use limits::MOST_FIELDS;
 use limits::MOST_NUMBERS;
@@ -38,8 +39,9 @@ fn read_cases() {
         b"sheet D",
         b"\x02\x03\x64\xC8\x01\xAC\x02\x03\x64\xC8\x01\xAC\x02\x18\x01\x00\x01\x01\x64",
     );
-    read_case(b"setting 65535", b"\x01\x01\xFF\xFF\x03\x18\x00");
     read_case(b"setting 65536", b"\x01\x01\x80\x80\x04\x18\x00");
+    read_case(b"setting 1000000", b"\x01\x01\xC0\x84\x3D\x18\x00");
+    read_case(b"setting 1000001", b"\x01\x01\xC1\x84\x3D\x18\x00");
     read_case(
         b"24 fields",
         b"\x18\x01\x00\x01\x00\x01\x00\x01\x00\x01\x00\x01\x00\x01\x00\x01\x00\x01\x00\x01\x00\x01\x00\x01\x00\
@@ -58,9 +60,32 @@ fn read_cases() {
 
 // Lists of numbers.
 fn write_cases() {
-    write_case(b"list, setting 65535", &[1, 1, 65535, 24, 0]);
     write_case(b"list, setting 65536", &[1, 1, 65536, 24, 0]);
+    write_case(b"list, setting 1000000", &[1, 1, 1000000, 24, 0]);
+    write_case(b"list, setting 1000001", &[1, 1, 1000001, 24, 0]);
     write_case(b"list, a word past four groups", &[1, 1, 268435456, 24, 0]);
+}
+
+// A rule of a kind with c, by its groups: in bytes, and as a list.
+fn amount_case(name: &[u8], kind: u8, groups: [u8; 3], c: u32) {
+    let low = groups[0];
+    let middle = groups[1];
+    let high = groups[2];
+    io::write_all(STDOUT_FILENO, b"kind ");
+    io::print_decimal(STDOUT_FILENO, kind as u64);
+    read_case(name, &[2, 1, 0, 1, 0, 24, 1, 0, 1, kind, low, middle, high]);
+    io::write_all(STDOUT_FILENO, b"list, kind ");
+    io::print_decimal(STDOUT_FILENO, kind as u64);
+    write_case(name, &[2, 1, 0, 1, 0, 24, 1, 0, 1, kind as u32, c]);
+}
+
+// The same for each kind that has a c.
+fn amount_cases(name: &[u8], groups: [u8; 3], c: u32) {
+    amount_case(name, 1, groups, c);
+    amount_case(name, 2, groups, c);
+    amount_case(name, 3, groups, c);
+    amount_case(name, 4, groups, c);
+    amount_case(name, 5, groups, c);
 }
 
 // An output that is too short, and a sheet that is refused before its output is looked at.
@@ -84,14 +109,17 @@ fn push(numbers: &mut [u32], k: usize, x: u32) -> usize
     k
 }
 
-// A field of 24 settings, each in three groups.
+// The least of the 24 largest settings.
+const LEAST: u32 = LARGEST_SETTING + 1 - MOST_SETTINGS;
+
+// A field of the 24 largest settings, each in three groups.
 fn push_field(numbers: &mut [u32], start: usize) -> usize
     ensures { λ _. ⌜ length (now (numbers .exit)) ≡ length (now (numbers .entry)) ⌝ }
 {
     let mut k = push(numbers, start, MOST_SETTINGS);
     let mut v: u32 = 0;
     while v < MOST_SETTINGS {
-        k = push(numbers, k, 65512 + v);
+        k = push(numbers, k, LEAST + v);
         v += 1;
     }
     k
@@ -174,6 +202,9 @@ fn largest_case() {
 fn main() {
     read_cases();
     write_cases();
+    amount_cases(b", c 65536", [0x80, 0x80, 0x04], 65536);
+    amount_cases(b", c 1000000", [0xC0, 0x84, 0x3D], 1000000);
+    amount_cases(b", c 1000001", [0xC1, 0x84, 0x3D], 1000001);
     short_cases();
     largest_case();
 }

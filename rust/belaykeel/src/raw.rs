@@ -10,6 +10,8 @@ pub const OFFERS_WORDS: usize = 24;
 pub const ROWS_WORDS: usize = 13_248;
 /// The least words of the second work space.
 pub const MEMORY_WORDS: usize = 13_824;
+/// The largest setting, and the largest number c of a rule, in micrometres.
+pub const LARGEST_SETTING: u32 = 1_000_000;
 /// The most numbers of a sheet.
 pub const SHEET_NUMBERS: usize = 8_055;
 /// The most bytes of a sheet.

@@ -1,5 +1,5 @@
-//! A plain solver, written from the scope paper alone to be compared with the library. It shares nothing with the library or its wrapper
-//! and is made to be read, not to be fast.
+//! A plain solver, written from the scope paper (01) and the later requests (02) alone to be compared with the library. It shares nothing
+//! with the library or its wrapper and is made to be read, not to be fast.
 //!
 //! [`reading`] has the sheet's bytes and numbers with refusals 1 to 5, [`network`] the definitions of closing, testing and offering,
 //! [`ledger`] the ledger and the number of a call, [`session`] a judge that is given a session's words where the ledger has its own state.
@@ -17,3 +17,6 @@ pub use sheet::{Rule, Sheet};
 
 /// The most fields of a sheet, and the most settings of a field.
 pub const MOST: usize = 24;
+
+/// The largest setting, and the largest c of a rule, in micrometres: request 3 of 02.
+pub const LARGEST_SETTING: u32 = 1_000_000;

@@ -1,6 +1,7 @@
 //! A sheet from its bytes or its list of numbers, and back, with refusals 1 to 6.
 
 use crate::sheet::{Rule, Sheet};
+use crate::LARGEST_SETTING;
 
 /// Where a sheet's numbers come from.
 enum Source<'a> {
@@ -62,7 +63,7 @@ impl Reader<'_> {
     fn settings(&mut self) -> Result<Vec<u32>, u32> {
         let mut settings: Vec<u32> = vec![];
         for _ in 0..self.number(1, 24)? {
-            let setting = self.number(0, 65_535)?;
+            let setting = self.number(0, LARGEST_SETTING)?;
             if settings.last().is_some_and(|&last| last >= setting) {
                 return Err(4);
             }
@@ -85,7 +86,7 @@ impl Reader<'_> {
                 numbers.push(self.number(0, (1 << settings[j].len()) - 1)?);
             }
         } else {
-            numbers.push(self.number(0, 65_535)?);
+            numbers.push(self.number(0, LARGEST_SETTING)?);
         }
         Ok(Rule { i, j, kind, numbers })
     }

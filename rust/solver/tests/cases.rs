@@ -1,4 +1,4 @@
-//! The worked cases of the scope paper.
+//! The worked cases of the scope paper and of the later requests.
 
 use solver::reading::{groups, read, sheet};
 use solver::{Arguments, Call, Ledger};
@@ -51,6 +51,20 @@ fn rings_and_triangles() {
     assert_eq!(last(&unequal(5, 2, &ring), &[Call::Open]), Err(14));
 }
 
+/// Settings and c near 65,536 and near 1,000,000, one rule of a kind with c.
+#[test]
+fn edger_widths() {
+    let edges = |kind, c| groups(&[2, 3, 0, 65_536, 1_000_000, 2, 65_535, 999_999, 24, 1, 0, 1, kind, c]);
+    assert_eq!(last(&edges(1, 1), &[Call::Open]), Ok(vec![6, 3]));
+    assert_eq!(last(&edges(1, 1_000_000), &[Call::Open]), Err(14));
+    assert_eq!(last(&edges(2, 1), &[Call::Open]), Ok(vec![3, 3]));
+    assert_eq!(last(&edges(3, 934_465), &[Call::Open]), Ok(vec![5, 3]));
+    assert_eq!(last(&edges(4, 1), &[Call::Open]), Ok(vec![6, 3]));
+    assert_eq!(last(&edges(4, 1_000_000), &[Call::Open]), Ok(vec![7, 3]));
+    assert_eq!(last(&edges(5, 999_999), &[Call::Open]), Ok(vec![1, 2]));
+    assert!((1..=5).all(|kind| last(&edges(kind, 1_000_001), &[Call::Open]) == Err(3)));
+}
+
 #[test]
 fn sixty_four_events() {
     let mut calls = vec![Call::Open];
@@ -65,8 +79,8 @@ fn sixty_four_events() {
 #[test]
 fn numbers_in_groups() {
     let refused = |bytes: &[u8]| sheet(bytes).expect_err("a refusal");
-    assert_eq!(read(&groups(&[1, 1, 65_535, 24, 0]), 5), Ok(vec![1, 1, 65_535, 24, 0]));
-    assert_eq!(refused(&groups(&[1, 1, 65_536, 24, 0])), 3);
+    assert_eq!(read(&groups(&[1, 1, 1_000_000, 24, 0]), 5), Ok(vec![1, 1, 1_000_000, 24, 0]));
+    assert_eq!(refused(&groups(&[1, 1, 1_000_001, 24, 0])), 3);
     assert_eq!(refused(&[25]), 3);
     assert_eq!(refused(&[0x80, 0x00]), 2);
     assert_eq!(refused(&[0x80]), 1);

@@ -10,6 +10,7 @@ pub mod forge;
 pub mod gadgets;
 pub mod linked;
 pub mod planted;
+pub mod repository;
 pub mod runner;
 pub mod shapes;
 pub mod sheets;

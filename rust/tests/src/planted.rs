@@ -3,6 +3,7 @@
 pub mod offers;
 
 use crate::linked::{Library, Linked};
+use crate::sheets::widest;
 use belaykeel::raw::Arguments;
 use belaykeel::{Event, Session};
 use solver::{reading, Call};
@@ -22,8 +23,12 @@ pub enum Fault {
     ShortQueue,
     /// The neighbourhoods are one rule too short.
     ShortReach,
-    /// q + c is compared modulo 65,536.
-    Wraps,
+    /// q + c is compared modulo this number.
+    Wraps(u32),
+    /// Settings and c are read up to 65,535 only.
+    Narrow,
+    /// 1,000,001 is read, as 1,000,000.
+    OneMore,
     /// Offers are written by a call that 14 refuses.
     OffersOnRefusal,
     /// Words of the offers list past the fields are written.
@@ -51,14 +56,17 @@ pub enum Fault {
 }
 
 impl Fault {
-    pub const ALL: [Fault; 19] = [
+    pub const ALL: [Fault; 22] = [
         Fault::Restores,
         Fault::RecordsOnly,
         Fault::OnlyCloses,
         Fault::OnePass,
         Fault::ShortQueue,
         Fault::ShortReach,
-        Fault::Wraps,
+        Fault::Wraps(65_536),
+        Fault::Wraps(1_000_000),
+        Fault::Narrow,
+        Fault::OneMore,
         Fault::OffersOnRefusal,
         Fault::LaterWords,
         Fault::OpenClears,
@@ -89,16 +97,36 @@ fn again<'a>(given: &'a mut Arguments) -> Arguments<'a> {
     Arguments { sheet, engine: *engine, order, offers, rows, memory }
 }
 
+/// Whether a setting or a number c of a sheet is past 65,535.
+fn wide(sheet: &[u8]) -> bool {
+    let (setting, c) = widest(&reading::sheet(sheet).expect("the call was accepted"));
+    setting.max(c) > 65_535
+}
+
+/// The bytes of a sheet with 1,000,000 in each place of 1,000,001.
+fn one_less(sheet: &[u8]) -> Vec<u8> {
+    let mut bytes = sheet.to_vec();
+    for place in (0..sheet.len()).filter(|&place| sheet[place..].starts_with(&[0xC1, 0x84, 0x3D])) {
+        bytes[place] = 0xC0;
+    }
+    bytes
+}
+
 impl Planted {
     pub fn new(fault: Fault) -> Planted {
         Planted { fault, shown: vec![], removed: BTreeMap::new() }
     }
 
-    /// The number of a call that should have been refused by this one.
-    fn pardoned(&self, number: u32, session: &mut Session, call: Call, given: &mut Arguments) -> u32 {
+    /// The number that is given instead of this one.
+    fn misjudged(&self, number: u32, session: &mut Session, call: Call, given: &mut Arguments) -> u32 {
         let count = session.count;
         match (self.fault, number) {
             (Fault::Swapped, 12 | 13) => 25 - number,
+            (Fault::Narrow, 0) if wide(given.sheet) => 3,
+            (Fault::OneMore, 3) => {
+                let sheet = one_less(given.sheet);
+                Linked.call(session, call, Arguments { sheet: &sheet, ..again(given) })
+            }
             (Fault::Engine2, 8) => Linked.call(session, call, Arguments { engine: 1, ..again(given) }),
             (Fault::OrderUnread, 9) => {
                 let n = reading::sheet(given.sheet).expect("9 comes after the sheet").fields();
@@ -147,7 +175,7 @@ impl Library for Planted {
             given.rows[0] ^= 1;
         }
         let number = Linked.call(session, call, again(&mut given));
-        let number = self.pardoned(number, session, call, &mut given);
+        let number = self.misjudged(number, session, call, &mut given);
         if number == 0 {
             self.spoil_offers(session, call, &mut given);
             self.spoil_session(session, call);

@@ -2,7 +2,7 @@
 
 use crate::gadgets::far;
 use crate::Random;
-use solver::{Rule, Sheet};
+use solver::{Rule, Sheet, LARGEST_SETTING};
 
 /// How large a sheet may be.
 #[derive(Clone, Copy, Debug, PartialEq, Eq)]
@@ -16,6 +16,12 @@ pub enum Size {
     /// 24 fields of 24 settings, with a rule for almost every pair of fields.
     Full,
 }
+
+/// How many settings there can be: 0 to the largest.
+const RANGE: usize = LARGEST_SETTING as usize + 1;
+
+/// Where a word of 16 bits ends, which is inside the range.
+const WORD: usize = 1 << 16;
 
 /// What a sheet is made from.
 struct Frame {
@@ -111,11 +117,12 @@ fn pairs(random: &mut Random, n: usize) -> Vec<(usize, usize)> {
 
 /// Settings one apart, some of them missing, and rules that ask for different ones, a few for equal ones.
 fn unequal(random: &mut Random, frame: Frame) -> Sheet {
-    let first = random.pick(&[0, 1, 65_500]);
+    let count = frame.settings.max(2);
+    let first = random.pick(&[0, 1, WORD - count / 2, RANGE - count]) as u32;
     let missing = random.pick(&[4, 1000]);
     let mut settings: Vec<Vec<u32>> = vec![];
     for _ in 0..frame.fields {
-        let mut own: Vec<u32> = (first..first + frame.settings.max(2) as u32).filter(|_| !random.one_in(missing)).collect();
+        let mut own: Vec<u32> = (first..first + count as u32).filter(|_| !random.one_in(missing)).collect();
         if own.is_empty() {
             own.push(first);
         }
@@ -131,7 +138,7 @@ fn unequal(random: &mut Random, frame: Frame) -> Sheet {
 /// Rules that ask for a step up or down, of a few micrometres or of half the range.
 fn steps(random: &mut Random, frame: Frame) -> Sheet {
     let wide = random.one_in(2);
-    let span = if wide { 65_536 } else { 12 };
+    let span = if wide { random.pick(&[WORD, RANGE]) } else { 12 };
     let settings: Vec<Vec<u32>> = (0..frame.fields).map(|_| rising(random, frame.settings, span)).collect();
     let mut rules = vec![];
     for (i, j) in frame.pairs {
@@ -165,7 +172,7 @@ fn masked(random: &mut Random, frame: Frame) -> Sheet {
 
 /// Rules of every kind, over a narrow or a wide span.
 fn mixed(random: &mut Random, frame: Frame) -> Sheet {
-    let span = random.pick(&[8, 30, 400, 65_536]);
+    let span = random.pick(&[8, 30, 400, WORD, RANGE]);
     let settings: Vec<Vec<u32>> = (0..frame.fields).map(|_| rising(random, frame.settings, span)).collect();
     let mut rules = vec![];
     for (i, j) in frame.pairs {
@@ -174,7 +181,7 @@ fn mixed(random: &mut Random, frame: Frame) -> Sheet {
             0 => settings[i].iter().map(|_| (random.word() | random.word()) as u32 % (1 << settings[j].len())).collect(),
             4 => vec![random.from(span / 4, span - 1) as u32],
             5 if random.one_in(2) => vec![random.pick(&settings[i]).abs_diff(random.pick(&settings[j]))],
-            _ if random.one_in(6) => vec![random.pick(&[65_535, 65_534, 60_000, 40_000, 0])],
+            _ if random.one_in(6) => vec![edge_amount(random)],
             _ => vec![random.below(span / 6 + 1) as u32],
         };
         rules.push(Rule { i, j, kind, numbers });
@@ -182,11 +189,21 @@ fn mixed(random: &mut Random, frame: Frame) -> Sheet {
     Sheet { settings, reach: frame.reach, rules }
 }
 
-/// Up to d settings below the span or at the top of the range, strictly rising.
+/// A number c at one of the ends, or where a word of 16 bits ends.
+fn edge_amount(random: &mut Random) -> u32 {
+    let end = random.pick(&[RANGE, RANGE, WORD + 2, 40_000, 1]);
+    (end - random.from(1, end.min(3))) as u32
+}
+
+/// Up to d settings below the span, around the end of a word of 16 bits or at the top of the range, strictly rising.
 fn rising(random: &mut Random, d: usize, span: usize) -> Vec<u32> {
     let d = if random.one_in(5) { random.from(1, d) } else { d };
     let span = span.max(2 * d);
-    let first = if random.one_in(6) { 65_536 - span } else { 0 };
+    let first = match random.below(12) {
+        0 => RANGE - span,
+        1 => WORD.saturating_sub(span / 2),
+        _ => 0,
+    };
     let mut settings: Vec<u32> = vec![];
     while settings.len() < d {
         let setting = (first + random.below(span)) as u32;

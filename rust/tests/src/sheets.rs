@@ -3,7 +3,7 @@
 use crate::shapes::every;
 use crate::Random;
 use solver::reading::groups;
-use solver::{Rule, Sheet};
+use solver::{Rule, Sheet, LARGEST_SETTING};
 
 /// The list of numbers of a sheet.
 pub fn numbers(sheet: &Sheet) -> Vec<u32> {
@@ -28,7 +28,13 @@ pub fn bytes(sheet: &Sheet) -> Vec<u8> {
 /// The numbers of the largest sheet: 24 fields of 24 settings in three groups, 276 rules of 24 masks in four.
 pub fn largest() -> Vec<u32> {
     let rule = |(i, j)| Rule { i, j, kind: 0, numbers: vec![(1 << 24) - 1; 24] };
-    numbers(&Sheet { settings: vec![(65_512..65_536).collect(); 24], reach: 24, rules: every(24).map(rule).collect() })
+    numbers(&Sheet { settings: vec![(LARGEST_SETTING - 23..=LARGEST_SETTING).collect(); 24], reach: 24, rules: every(24).map(rule).collect() })
+}
+
+/// The largest setting of a sheet, and the largest number c of its rules; 0 where there is none.
+pub fn widest(sheet: &Sheet) -> (u32, u32) {
+    let amounts = sheet.rules.iter().filter(|rule| rule.kind > 0).flat_map(|rule| &rule.numbers);
+    (sheet.settings.iter().flatten().copied().max().unwrap_or(0), amounts.copied().max().unwrap_or(0))
 }
 
 /// Fields {1, 2} with a distance of at least 1 for each of these pairs.
@@ -46,9 +52,10 @@ pub fn strings(length: u32) -> impl Iterator<Item = Vec<u8>> {
 
 /// A number that is often at the edge of some range.
 pub fn edge(random: &mut Random) -> u32 {
-    match random.below(8) {
+    match random.below(9) {
         0 => random.below(30) as u32,
         1 => random.from(65_534, 65_537) as u32,
+        7 => LARGEST_SETTING - 1 + random.below(4) as u32,
         2 => random.from((1 << 28) - 2, (1 << 28) + 1) as u32,
         3 => u32::MAX - random.below(2) as u32,
         4 => 0,
@@ -107,8 +114,24 @@ pub fn damage_bytes(random: &mut Random, bytes: &mut Vec<u8>) {
     }
 }
 
+/// The sheet with a field's last setting, or a rule's number c, at the end of the range or just past it.
+fn at_the_end(random: &mut Random, sheet: &Sheet) -> Sheet {
+    let mut sheet = sheet.clone();
+    let number = LARGEST_SETTING - 1 + random.below(4) as u32;
+    let field = random.below(sheet.fields());
+    let rule = random.below(sheet.rules.len() + 1);
+    match sheet.rules.get_mut(rule).filter(|rule| rule.kind > 0) {
+        Some(rule) => rule.numbers[0] = number,
+        None => *sheet.settings[field].last_mut().expect("a setting") = number,
+    }
+    sheet
+}
+
 /// The bytes of a sheet after some damage; now and then they are a sheet again.
 pub fn damaged(random: &mut Random, sheet: &Sheet) -> Vec<u8> {
+    if random.one_in(6) {
+        return bytes(&at_the_end(random, sheet));
+    }
     let mut numbers = numbers(sheet);
     let by_numbers = random.one_in(2);
     if by_numbers {

@@ -1,5 +1,6 @@
 //! How often each call gave each number, and which sheets it met.
 
+use crate::sheets::widest;
 use solver::{Call, Sheet};
 use std::collections::BTreeSet;
 use std::fmt;
@@ -31,6 +32,8 @@ pub struct Tally {
     pub settings: BTreeSet<usize>,
     pub reaches: BTreeSet<u32>,
     pub kinds: BTreeSet<u32>,
+    /// The largest setting, and the largest c of a rule.
+    pub widest: (u32, u32),
 }
 
 impl Tally {
@@ -43,6 +46,8 @@ impl Tally {
         self.settings.extend(sheet.settings.iter().map(Vec::len));
         self.reaches.insert(sheet.reach);
         self.kinds.extend(sheet.rules.iter().map(|rule| rule.kind));
+        let (setting, c) = widest(sheet);
+        self.widest = (self.widest.0.max(setting), self.widest.1.max(c));
     }
 
     /// How many calls there were.
@@ -67,6 +72,8 @@ impl fmt::Display for Tally {
             writeln!(formatter)?;
         }
         let (fields, settings) = (self.fields.len(), self.settings.len());
-        write!(formatter, "{fields} counts of fields, {settings} of settings, {} reaches, {} kinds", self.reaches.len(), self.kinds.len())
+        let (setting, c) = self.widest;
+        writeln!(formatter, "{fields} counts of fields, {settings} of settings, {} reaches, {} kinds", self.reaches.len(), self.kinds.len())?;
+        write!(formatter, "settings up to {setting}, c up to {c}")
     }
 }

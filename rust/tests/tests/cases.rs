@@ -1,6 +1,7 @@
-//! The worked cases of the scope paper, through the wrapper, with every engine that the reach allows.
+//! The worked cases of the scope paper and of the later requests, through the wrapper, with every engine that the reach allows.
 
 use belaykeel::{Engine, Offers, Order, Refusal, Session, Sheet, WorkSpaces};
+use solver::reading::groups;
 use solver::Call;
 use tests::sheets::{self, bytes};
 
@@ -79,6 +80,23 @@ fn triangles_and_rings() {
     assert_eq!(last(&unequal(5, 2, &ring), Engine::Sac2, &[Call::Open]), Err(8));
 }
 
+/// Settings and c near 65,536 and near 1,000,000, one rule of a kind with c.
+#[test]
+fn edger_widths() {
+    let edges = |kind, c| [2, 3, 0, 65_536, 1_000_000, 2, 65_535, 999_999, 24, 1, 0, 1, kind, c];
+    for engine in Engine::ALL {
+        let opened = |kind, c| last(&Sheet::from_bytes(groups(&edges(kind, c))), engine, &[Call::Open]);
+        assert_eq!(opened(1, 1), Ok(vec![6, 3]));
+        assert_eq!(opened(1, 1_000_000), Err(14));
+        assert_eq!(opened(2, 1), Ok(vec![3, 3]));
+        assert_eq!(opened(3, 934_465), Ok(vec![5, 3]));
+        assert_eq!(opened(4, 1), Ok(vec![6, 3]));
+        assert_eq!(opened(4, 1_000_000), Ok(vec![7, 3]));
+        assert_eq!(opened(5, 999_999), Ok(vec![1, 2]));
+        assert!((1..=5).all(|kind| opened(kind, 1_000_001) == Err(3)));
+    }
+}
+
 #[test]
 fn sixty_four_events() {
     let sheet = Sheet::from_bytes(SHEET_D);
@@ -97,8 +115,13 @@ fn sixty_four_events() {
 fn ranges_and_groups() {
     let written = |numbers: &[u32]| Sheet::write(numbers).map(|sheet| sheet.read().expect("a sheet"));
     let one_field = |setting| [1, 1, setting, 24, 0];
-    assert_eq!(written(&one_field(65_535)), Ok(one_field(65_535).to_vec()));
-    assert_eq!(written(&one_field(65_536)), Err(Refusal::OutOfRange));
+    assert_eq!(written(&one_field(1_000_000)), Ok(one_field(1_000_000).to_vec()));
+    assert_eq!(written(&one_field(1_000_001)), Err(Refusal::OutOfRange));
+    for kind in 1..=5 {
+        let one_rule = |c| [2, 1, 0, 1, 0, 24, 1, 0, 1, kind, c];
+        assert_eq!(written(&one_rule(1_000_000)), Ok(one_rule(1_000_000).to_vec()));
+        assert_eq!(written(&one_rule(1_000_001)), Err(Refusal::OutOfRange));
+    }
     let fields = |n: u32| [vec![n], [1, 7].repeat(n as usize), vec![1, 0]].concat();
     assert_eq!(written(&fields(24)), Ok(fields(24)));
     assert_eq!(written(&fields(25)), Err(Refusal::OutOfRange));

@@ -62,7 +62,7 @@ fn sheet(causes: Causes) -> Vec<u8> {
     match causes.sheet {
         1 => bytes.truncate(last),
         2 => bytes.splice(last.., [c | 0x80, 0x00]).for_each(drop),
-        3 => bytes.splice(last.., [0x80, 0x80, 0x04]).for_each(drop),
+        3 => bytes.splice(last.., [0xC1, 0x84, 0x3D]).for_each(drop),
         4 => bytes.swap(last - 3, last - 2),
         5 => bytes.push(0),
         _ => (),

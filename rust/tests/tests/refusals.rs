@@ -2,13 +2,7 @@
 //! wrapper and README.md.
 
 use belaykeel::Refusal;
-use std::fs::read_to_string;
-
-/// The lines of a file of the repository that the filter takes, without the blanks around them.
-fn lines(path: &str, wanted: fn(&str) -> bool) -> Vec<String> {
-    let text = read_to_string(format!("{}/../../{path}", env!("CARGO_MANIFEST_DIR"))).expect(path);
-    text.lines().map(str::trim).filter(|line| wanted(line)).map(str::to_string).collect()
-}
+use tests::repository::lines;
 
 /// The wrapper's name in capitals, with this mark between its words.
 fn name(refusal: Refusal, mark: &str) -> String {

@@ -12,10 +12,11 @@ fn share(size: Size, forging: bool, damaged: bool, thousandths: u64) -> Tally {
     sequences(&|| Box::new(Linked), Plan { size, forging, damaged }, calls * thousandths / 1000)
 }
 
-/// Every number of these was given, where there were calls enough to ask for it.
+/// Every number of these was given, and settings and c went up to the largest, where there were calls enough to ask for it.
 fn all_given(tally: &Tally, numbers: &[u32]) {
     if tally.calls() >= 10_000 {
         assert!(numbers.iter().all(|&number| tally.number(number) > 0), "{tally}");
+        assert_eq!(tally.widest, (1_000_000, 1_000_000), "{tally}");
     }
 }
 

@@ -1,7 +1,7 @@
 //! Sheets read and written in plain Rust, with one grammar for bytes and for lists of numbers. A refusal is the number of its cause.
 
 use crate::{Domains, MOST, WHOLE_REACH};
-use belaykeel::raw::{Answer, SHEET_NUMBERS};
+use belaykeel::raw::{Answer, LARGEST_SETTING, SHEET_NUMBERS};
 
 /// What is known of a sheet beside its list of numbers.
 #[derive(Clone, Copy, Debug)]
@@ -120,7 +120,7 @@ impl<S: Source, E: FnMut(u32)> Grammar<S, E> {
         let count = self.take(1, MOST as u32)?;
         let mut least = 0;
         for _ in 0..count {
-            let setting = self.take(0, 65_535)?;
+            let setting = self.take(0, LARGEST_SETTING)?;
             if setting < least {
                 return Err(4);
             }
@@ -139,7 +139,7 @@ impl<S: Source, E: FnMut(u32)> Grammar<S, E> {
             return Err(4);
         }
         if self.take(0, 5)? > 0 {
-            self.take(0, 65_535)?;
+            self.take(0, LARGEST_SETTING)?;
         } else {
             let most = outline.full[j as usize];
             for _ in 0..outline.full[i as usize].count_ones() {

@@ -17,7 +17,7 @@ impl Planted {
             Fault::Restores => self.restore(call, masks),
             Fault::RecordsOnly if self.shown.len() == n && call != Call::Open => masks.copy_from_slice(&self.shown),
             Fault::LaterWords => given.offers[n..].iter_mut().take(1).for_each(|word| *word = 0),
-            Fault::OnlyCloses | Fault::OnePass | Fault::ShortReach | Fault::Wraps => self.weaken(session, &sheet, given),
+            Fault::OnlyCloses | Fault::OnePass | Fault::ShortReach | Fault::Wraps(_) => self.weaken(session, &sheet, given),
             Fault::ShortQueue if given.engine == 3 => self.weaken(session, &sheet, given),
             _ => (),
         }
@@ -47,7 +47,7 @@ impl Planted {
         let mut sheet = sheet.clone();
         match self.fault {
             Fault::ShortReach => sheet.reach = if sheet.reach == 24 { 24 } else { (sheet.reach - 1).max(1) },
-            Fault::Wraps => wrap(&mut sheet),
+            Fault::Wraps(modulus) => wrap(&mut sheet, modulus),
             _ => (),
         }
         let network = Network::of(&sheet);
@@ -96,13 +96,13 @@ pub fn short_queue(network: &Network, mut set: Set, order: &[u8]) -> Set {
     set
 }
 
-/// Rules of kinds 1 and 2 as tables, with sums modulo 65,536.
-fn wrap(sheet: &mut Sheet) {
+/// Rules of kinds 1 and 2 as tables, with sums modulo this number.
+fn wrap(sheet: &mut Sheet, modulus: u32) {
     for rule in sheet.rules.iter_mut().filter(|rule| rule.kind == 1 || rule.kind == 2) {
         let c = rule.numbers[0];
         let (one, other) = (&sheet.settings[rule.i], &sheet.settings[rule.j]);
         let kind = rule.kind;
-        let allowed = |p: u32, q: u32| if kind == 1 { p >= (q + c) % 65_536 } else { q >= (p + c) % 65_536 };
+        let allowed = |p: u32, q: u32| if kind == 1 { p >= (q + c) % modulus } else { q >= (p + c) % modulus };
         let row = |p: u32| (0..other.len()).filter(|&u| allowed(p, other[u])).map(|u| 1 << u).sum();
         rule.numbers = one.iter().map(|&p| row(p)).collect();
         rule.kind = 0;

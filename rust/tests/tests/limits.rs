@@ -1,0 +1,29 @@
+//! The limits that callers see are those of the code: in the header, the wrapper and, for the solver, the papers.
+
+use belaykeel::{raw, EVENTS};
+use tests::repository::lines;
+
+/// The limits by their names in the code, and by their names in the header.
+const LIMITS: [(&str, &str, usize); 8] = [
+    ("MOST_FIELDS", "FIELDS", solver::MOST),
+    ("LARGEST_SETTING", "LARGEST_SETTING", raw::LARGEST_SETTING as usize),
+    ("MOST_EVENTS", "EVENTS", EVENTS),
+    ("MOST_BYTES", "SHEET_BYTES", raw::SHEET_BYTES),
+    ("MOST_NUMBERS", "SHEET_NUMBERS", raw::SHEET_NUMBERS),
+    ("OFFERS_WORDS", "OFFERS_WORDS", raw::OFFERS_WORDS),
+    ("ROWS_WORDS", "ROWS_WORDS", raw::ROWS_WORDS),
+    ("MEMORY_WORDS", "MEMORY_WORDS", raw::MEMORY_WORDS),
+];
+
+#[test]
+fn header_and_wrapper() {
+    let code = lines("crates/limits/src/lib.rt", |line| line.starts_with("pub const"));
+    let header = lines("include/belaykeel.h", |line| line.starts_with("#define BELAYKEEL_") && line.contains("/*"));
+    let shown: Vec<String> = LIMITS.iter().map(|(_, name, limit)| format!("#define BELAYKEEL_{name} {limit} ")).collect();
+    assert!(header.iter().zip(&shown).all(|(line, shown)| line.starts_with(shown)) && header.len() == shown.len(), "{header:?}");
+    for (name, _, limit) in LIMITS {
+        let [word, size] = ["u32", "usize"].map(|kind| format!("pub const {name}: {kind} = {limit};"));
+        assert!(code.contains(&word) || code.contains(&size), "{name} is not {limit} in the code");
+    }
+    assert_eq!(solver::LARGEST_SETTING, raw::LARGEST_SETTING);
+}
