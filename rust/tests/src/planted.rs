@@ -26,9 +26,9 @@ pub enum Fault {
     /// q + c is compared modulo this number.
     Wraps(u32),
     /// Settings and c are read up to 65,535 only.
-    Narrow,
+    LowerLimit,
     /// 1,000,001 is read, as 1,000,000.
-    OneMore,
+    HigherLimit,
     /// Offers are written by a call that 14 refuses.
     OffersOnRefusal,
     /// Words of the offers list past the fields are written.
@@ -65,8 +65,8 @@ impl Fault {
         Fault::ShortReach,
         Fault::Wraps(65_536),
         Fault::Wraps(1_000_000),
-        Fault::Narrow,
-        Fault::OneMore,
+        Fault::LowerLimit,
+        Fault::HigherLimit,
         Fault::OffersOnRefusal,
         Fault::LaterWords,
         Fault::OpenClears,
@@ -122,8 +122,8 @@ impl Planted {
         let count = session.count;
         match (self.fault, number) {
             (Fault::Swapped, 12 | 13) => 25 - number,
-            (Fault::Narrow, 0) if wide(given.sheet) => 3,
-            (Fault::OneMore, 3) => {
+            (Fault::LowerLimit, 0) if wide(given.sheet) => 3,
+            (Fault::HigherLimit, 3) => {
                 let sheet = one_less(given.sheet);
                 Linked.call(session, call, Arguments { sheet: &sheet, ..again(given) })
             }

@@ -28,7 +28,8 @@ pub fn bytes(sheet: &Sheet) -> Vec<u8> {
 /// The numbers of the largest sheet: 24 fields of 24 settings in three groups, 276 rules of 24 masks in four.
 pub fn largest() -> Vec<u32> {
     let rule = |(i, j)| Rule { i, j, kind: 0, numbers: vec![(1 << 24) - 1; 24] };
-    numbers(&Sheet { settings: vec![(LARGEST_SETTING - 23..=LARGEST_SETTING).collect(); 24], reach: 24, rules: every(24).map(rule).collect() })
+    let settings = vec![(LARGEST_SETTING - 23..=LARGEST_SETTING).collect(); 24];
+    numbers(&Sheet { settings, reach: 24, rules: every(24).map(rule).collect() })
 }
 
 /// The largest setting of a sheet, and the largest number c of its rules; 0 where there is none.

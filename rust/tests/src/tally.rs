@@ -71,9 +71,9 @@ impl fmt::Display for Tally {
             }
             writeln!(formatter)?;
         }
-        let (fields, settings) = (self.fields.len(), self.settings.len());
+        let (fields, settings, reaches) = (self.fields.len(), self.settings.len(), self.reaches.len());
+        writeln!(formatter, "{fields} counts of fields, {settings} of settings, {reaches} reaches, {} kinds", self.kinds.len())?;
         let (setting, c) = self.widest;
-        writeln!(formatter, "{fields} counts of fields, {settings} of settings, {} reaches, {} kinds", self.reaches.len(), self.kinds.len())?;
         write!(formatter, "settings up to {setting}, c up to {c}")
     }
 }
