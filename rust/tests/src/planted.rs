@@ -106,8 +106,11 @@ fn wide(sheet: &[u8]) -> bool {
 /// The bytes of a sheet with 1,000,000 in each place of 1,000,001.
 fn one_less(sheet: &[u8]) -> Vec<u8> {
     let mut bytes = sheet.to_vec();
-    for place in (0..sheet.len()).filter(|&place| sheet[place..].starts_with(&[0xC1, 0x84, 0x3D])) {
-        bytes[place] = 0xC0;
+    for place in 0..sheet.len() {
+        let begins = place == 0 || sheet[place - 1] < 128;
+        if begins && sheet[place..].starts_with(&[0xC1, 0x84, 0x3D]) {
+            bytes[place] = 0xC0;
+        }
     }
     bytes
 }
@@ -123,10 +126,7 @@ impl Planted {
         match (self.fault, number) {
             (Fault::Swapped, 12 | 13) => 25 - number,
             (Fault::LowerLimit, 0) if wide(given.sheet) => 3,
-            (Fault::HigherLimit, 3) => {
-                let sheet = one_less(given.sheet);
-                Linked.call(session, call, Arguments { sheet: &sheet, ..again(given) })
-            }
+            (Fault::HigherLimit, 3) => Linked.call(session, call, again(given)),
             (Fault::Engine2, 8) => Linked.call(session, call, Arguments { engine: 1, ..again(given) }),
             (Fault::OrderUnread, 9) => {
                 let n = reading::sheet(given.sheet).expect("9 comes after the sheet").fields();
@@ -175,6 +175,8 @@ impl Library for Planted {
             given.rows[0] ^= 1;
         }
         let number = Linked.call(session, call, again(&mut given));
+        let read = if self.fault == Fault::HigherLimit && number == 3 { one_less(given.sheet) } else { given.sheet.to_vec() };
+        let mut given = Arguments { sheet: &read, ..given };
         let number = self.misjudged(number, session, call, &mut given);
         if number == 0 {
             self.spoil_offers(session, call, &mut given);

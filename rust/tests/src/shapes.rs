@@ -189,7 +189,7 @@ fn mixed(random: &mut Random, frame: Frame) -> Sheet {
     Sheet { settings, reach: frame.reach, rules }
 }
 
-/// A number c at one of the ends, or where a word of 16 bits ends.
+/// A number c near an end of the range, near where a word of 16 bits ends, or a large one between.
 fn edge_amount(random: &mut Random) -> u32 {
     let end = random.pick(&[RANGE, RANGE, WORD + 2, 40_000, 1]);
     (end - random.from(1, end.min(3))) as u32

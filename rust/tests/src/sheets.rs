@@ -56,12 +56,12 @@ pub fn edge(random: &mut Random) -> u32 {
     match random.below(9) {
         0 => random.below(30) as u32,
         1 => random.from(65_534, 65_537) as u32,
-        7 => LARGEST_SETTING - 1 + random.below(4) as u32,
-        2 => random.from((1 << 28) - 2, (1 << 28) + 1) as u32,
-        3 => u32::MAX - random.below(2) as u32,
-        4 => 0,
-        5 => 1 << random.below(32),
-        6 => (1u64 << random.below(33)).wrapping_sub(1) as u32,
+        2 => LARGEST_SETTING - 1 + random.below(4) as u32,
+        3 => random.from((1 << 28) - 2, (1 << 28) + 1) as u32,
+        4 => u32::MAX - random.below(2) as u32,
+        5 => 0,
+        6 => 1 << random.below(32),
+        7 => (1u64 << random.below(33)).wrapping_sub(1) as u32,
         _ => random.below(300) as u32,
     }
 }

@@ -1,4 +1,4 @@
-//! The limits that callers see are those of the code: in the header, the wrapper and, for the solver, the papers.
+//! The limits that callers see, in the header and the wrapper, are those of the code; the solver has its own, read from the papers.
 
 use belaykeel::{raw, EVENTS};
 use tests::repository::lines;
