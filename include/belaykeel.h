@@ -17,6 +17,7 @@ extern "C" {
 
 #define BELAYKEEL_FIELDS 24 /* the most fields of a sheet, and the most settings of a field */
 #define BELAYKEEL_LARGEST_SETTING 1000000 /* the largest setting, and the largest number c of a rule, in micrometres */
+#define BELAYKEEL_ENCODER_TOLERANCE 2 /* how far the distance of a pair may be from c under kind 5, in micrometres */
 #define BELAYKEEL_EVENTS 64 /* the most events of a session */
 #define BELAYKEEL_SHEET_BYTES 29080 /* the most bytes of a sheet */
 #define BELAYKEEL_SHEET_NUMBERS 8055 /* the most numbers of a sheet */

@@ -2,11 +2,12 @@
 use mathlib.Core.Path.{_≡_, refl}
 use mathlib.Core.Bool.{Bool, true, false}
 use mathlib.Core.List.{List, [], _∷_, _++_}
-use Prim.Native.Nat.{ℕ}
+use Prim.Native.Nat.{ℕ, _+_}
 use Rattle.masks.specs.Pick.{pick}
 use Rattle.groups.specs.Groups.{groups, numberAt, encode, encodeIn}
 use Rattle.grammar.specs.Grammar.{advance}
 use Rattle.sheet.specs.Sources.{Item, refusalFrom, refusal, numbers, items, ofBytes, ofNumbers, bytesOf}
+use Rattle.accepted.specs.Lists.{tabulate}
 use Rattle.accepted.specs.Kinds.{allows}
 
 -- sheet D, in bytes and in numbers
@@ -80,3 +81,24 @@ pub distances-whole : (pair 3 65536 65536 0 ≡ true) × (pair 3 65536 0 65535 �
     × (pair 5 1000000 1000000 0 ≡ true) × (pair 5 1000000 0 999997 ≡ false)
 unfolding pick
 distances-whole = (refl, refl, refl, refl, refl, refl, refl, refl, refl, refl, refl, refl)
+
+-- ---- equal within the encoder (02, request 6)
+
+-- For n distances from d on, 1 where kind 5 with c allows a pair that far apart, and 0 where it does not: the larger setting is that of i,
+-- then that of j.
+abbrev equals : (c d n : ℕ) → List ℕ × List ℕ
+equals c d n = (tabulate n (λ k. pick (pair 5 c (d + k) 0) 1 0), tabulate n (λ k. pick (pair 5 c 0 (d + k)) 1 0))
+
+-- the same for both
+abbrev twice : List ℕ → List ℕ × List ℕ
+twice xs = (xs, xs)
+
+-- c 100 allows 98 to 102, and neither 97 nor 103; c 0 allows 0 to 2, c 1 allows 0 to 3, c 2 allows 0 to 4; c 1,000,000 allows the largest
+-- distance and two less, but not three less
+pub equal-within-encoder : (equals 100 97 7 ≡ twice (0 ∷ 1 ∷ 1 ∷ 1 ∷ 1 ∷ 1 ∷ 0 ∷ []))
+    × (equals 0 0 4 ≡ twice (1 ∷ 1 ∷ 1 ∷ 0 ∷ []))
+    × (equals 1 0 5 ≡ twice (1 ∷ 1 ∷ 1 ∷ 1 ∷ 0 ∷ []))
+    × (equals 2 0 6 ≡ twice (1 ∷ 1 ∷ 1 ∷ 1 ∷ 1 ∷ 0 ∷ []))
+    × (equals 1000000 999997 4 ≡ twice (0 ∷ 1 ∷ 1 ∷ 1 ∷ []))
+unfolding pick tabulate
+equal-within-encoder = (refl, refl, refl, refl, refl)

@@ -2,6 +2,7 @@
 use mathlib.Core.Bool.{Bool, false}
 use Prim.Native.Nat.{ℕ, _+_, _-_}
 use lib.Dec.{leb, eqb}
+use Rattle.limits.specs.Limits.{encoderTolerance}
 use Rattle.masks.specs.Bits.{bit}
 use Rattle.masks.specs.Pick.{pick}
 
@@ -9,7 +10,8 @@ use Rattle.masks.specs.Pick.{pick}
 abbrev pub distance : ℕ → ℕ → ℕ
 distance p q = p - q + (q - p)
 
--- With p the setting of i and q, at position b, that of j; c is the rule's number, and for kind 0 the mask of p's position.
+-- With p the setting of i and q, at position b, that of j; c is the rule's number, and for kind 0 the mask of p's position. Kind 5 is as 02,
+-- request 6, has it: the distance differs from c by at most the tolerance.
 abbrev pub allows : (kind c p q b : ℕ) → Bool
 allows kind c p q b =
     pick (eqb kind 0) (bit c b)
@@ -17,5 +19,5 @@ allows kind c p q b =
     (pick (eqb kind 2) (leb (p + c) q)
     (pick (eqb kind 3) (leb c (distance p q))
     (pick (eqb kind 4) (leb (distance p q) c)
-    (pick (eqb kind 5) (eqb (distance p q) c)
+    (pick (eqb kind 5) (leb (distance (distance p q) c) encoderTolerance)
     false)))))

@@ -2,6 +2,7 @@
 ghost use mathlib.Core.Path.{_≡_};
 ghost use Rattle.masks.specs.Bits.{bit};
 ghost use Rattle.accepted.specs.Kinds.{distance, allows};
+use limits::ENCODER_TOLERANCE;
 use masks::has_bit;
 
 // Position v is in the mask x.
@@ -35,7 +36,10 @@ pub fn allowed(kind: u32, c: u32, p: u32, q: u32, b: u32) -> bool
         2 => x + z <= y,
         3 => z <= distance(x, y),
         4 => distance(x, y) <= z,
-        5 => distance(x, y) == z,
+        5 => {
+            let d = distance(x, y);
+            z <= d + ENCODER_TOLERANCE && d <= z + ENCODER_TOLERANCE
+        }
         _ => false,
     }
 }

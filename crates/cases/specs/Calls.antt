@@ -1,5 +1,5 @@
 -- The sheets and calls that the cases speak of. Assumes nothing.
-use mathlib.Core.List.{List, [], _∷_}
+use mathlib.Core.List.{List, [], _∷_, _++_}
 use Prim.Native.Nat.{ℕ}
 use Rattle.limits.specs.Limits.{offersWords, rowsWords, memoryWords}
 use Rattle.sheet.specs.Sources.{numbers, ofBytes}
@@ -37,6 +37,14 @@ abbrev pub edges : ℕ → List ℕ → List ℕ
 edges kind c =
     0x02 ∷ 0x03 ∷ 0x00 ∷ 0x80 ∷ 0x80 ∷ 0x04 ∷ 0xC0 ∷ 0x84 ∷ 0x3D ∷ 0x02 ∷ 0xFF ∷ 0xFF ∷ 0x03 ∷ 0xBF ∷ 0x84 ∷ 0x3D
     ∷ 0x18 ∷ 0x01 ∷ 0x00 ∷ 0x01 ∷ kind ∷ c
+
+-- fields {0 to 5, 97, 98, 102, 103, 999,997, 999,998, 1,000,000}, {0} and the first again, and rules of kind 5 with c, given by its groups,
+-- between the second and each other
+abbrev pub encoders : List ℕ → List ℕ
+encoders c = 3 ∷ (distances ++ 1 ∷ 0 ∷ (distances ++ 0x18 ∷ 2 ∷ 0 ∷ 1 ∷ 5 ∷ (c ++ 1 ∷ 2 ∷ 5 ∷ c)))
+  where
+    distances : List ℕ
+    distances = 13 ∷ 0 ∷ 1 ∷ 2 ∷ 3 ∷ 4 ∷ 5 ∷ 97 ∷ 98 ∷ 102 ∷ 103 ∷ 0xBD ∷ 0x84 ∷ 0x3D ∷ 0xBE ∷ 0x84 ∷ 0x3D ∷ 0xC0 ∷ 0x84 ∷ 0x3D ∷ []
 
 -- three fields {1, 2}, all pairs of kind 3 with c 1, at a reach
 abbrev pub three : ℕ → List ℕ

@@ -30,7 +30,7 @@ use Rattle.ledger.specs.Ledger.{CHOOSE, STRIKE, WITHDRAW-STRIKE, changeBy, deci
 use Rattle.ledger.specs.Ledger.{otherChosen, starts, startSet, offersOf, wiped, spaceShort, onSheet, allOnSheet, reversible, malformed}
 use Rattle.ledger.specs.Ledger.{noEngine, isOrder, first, judged, causes, number, after}
 use Rattle.cases.specs.Problems.{allDifferent, ring}
-use Rattle.cases.specs.Calls.{given, answers, afterAll, single, edges, three, threeAndOne, five}
+use Rattle.cases.specs.Calls.{given, answers, afterAll, single, edges, encoders, three, threeAndOne, five}
 
 pub data Case : Type 0 where
   -- a problem, a reach, a set; its closing over every field, its offers, and whether it is wiped out
@@ -107,6 +107,13 @@ table =
     ∷ shown (edges 5 (0xBF ∷ 0x84 ∷ 0x3D ∷ [])) (Open ∷ []) (0 ∷ []) (1 ∷ 2 ∷ [])
     -- c of one more than 1,000,000
     ∷ calls (edges 1 (0xC1 ∷ 0x84 ∷ 0x3D ∷ [])) (Open ∷ []) (3 ∷ [])
+    -- 02, request 6: kind 5. c 0, 1 and 2 allow the distances 0 to 2, 3 and 4; c 100 allows 98 and 102; c 1,000,000 allows 999,998 and
+    -- 1,000,000
+    ∷ shown (encoders (0 ∷ [])) (Open ∷ []) (0 ∷ []) (0x7 ∷ 1 ∷ 0x7 ∷ [])
+    ∷ shown (encoders (1 ∷ [])) (Open ∷ []) (0 ∷ []) (0xF ∷ 1 ∷ 0xF ∷ [])
+    ∷ shown (encoders (2 ∷ [])) (Open ∷ []) (0 ∷ []) (0x1F ∷ 1 ∷ 0x1F ∷ [])
+    ∷ shown (encoders (100 ∷ [])) (Open ∷ []) (0 ∷ []) (0x180 ∷ 1 ∷ 0x180 ∷ [])
+    ∷ shown (encoders (0xC0 ∷ 0x84 ∷ 0x3D ∷ [])) (Open ∷ []) (0 ∷ []) (0x1800 ∷ 1 ∷ 0x1800 ∷ [])
     ∷ []
 
 -- THE THEOREM: every case of the table holds.

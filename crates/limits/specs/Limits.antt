@@ -1,4 +1,4 @@
--- The limits of 01, as 02 moved them, each named once. Assumes nothing.
+-- The limits of 01 and 02, each named once. Assumes nothing.
 use Prim.Native.Nat.{ℕ}
 
 -- fields n, 1 to 24
@@ -12,6 +12,10 @@ mostSettings = 24
 -- a setting, and the number c of a rule, in micrometres, 0 to 1,000,000 (02, request 3)
 abbrev pub largestSetting : ℕ
 largestSetting = 1000000
+
+-- how far the distance of a pair may be from c under kind 5, in micrometres (02, request 6)
+abbrev pub encoderTolerance : ℕ
+encoderTolerance = 2
 
 -- the reach, 1 to 24; at 24 the neighbourhood of a field is every field and every rule
 abbrev pub wholeReach : ℕ

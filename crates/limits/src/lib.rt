@@ -1,4 +1,4 @@
-// The limits of 01, as 02 moved them, and the numbers of the refusals, each named once. `specs/` has the same names.
+// The limits of 01 and 02, and the numbers of the refusals, each named once. `specs/` has the same names.
 pub mod refusals; // refusals.rt: the numbers of the refusals
 
 // The most fields of a sheet, and the length of an array with a word for each of them.
@@ -13,6 +13,9 @@ pub const SETTINGS: usize = MOST_SETTINGS as usize;
 
 // The largest setting, and the largest number c of a rule, in micrometres.
 pub const LARGEST_SETTING: u32 = 1000000;
+
+// How far the distance of a pair may be from c under kind 5, in micrometres.
+pub const ENCODER_TOLERANCE: u64 = 2;
 
 // The largest reach, at which the neighbourhood of a field is every field.
 pub const WHOLE_REACH: u32 = 24;

@@ -12,6 +12,8 @@ pub const ROWS_WORDS: usize = 13_248;
 pub const MEMORY_WORDS: usize = 13_824;
 /// The largest setting, and the largest number c of a rule, in micrometres.
 pub const LARGEST_SETTING: u32 = 1_000_000;
+/// How far the distance of a pair may be from c under kind 5, in micrometres.
+pub const ENCODER_TOLERANCE: u32 = 2;
 /// The most numbers of a sheet.
 pub const SHEET_NUMBERS: usize = 8_055;
 /// The most bytes of a sheet.

@@ -20,3 +20,6 @@ pub const MOST: usize = 24;
 
 /// The largest setting, and the largest c of a rule, in micrometres: request 3 of 02.
 pub const LARGEST_SETTING: u32 = 1_000_000;
+
+/// How far the distance of a pair may be from c under kind 5, in micrometres: request 6 of 02.
+pub const ENCODER_TOLERANCE: u32 = 2;

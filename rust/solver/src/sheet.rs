@@ -1,5 +1,7 @@
 //! A sheet that was read, and what its rules allow.
 
+use crate::ENCODER_TOLERANCE;
+
 /// Each field's settings in micrometres, the reach and the rules.
 #[derive(Clone, Debug, PartialEq, Eq)]
 pub struct Sheet {
@@ -39,7 +41,7 @@ impl Sheet {
             2 => q >= p + c,
             3 => p.abs_diff(q) >= c,
             4 => p.abs_diff(q) <= c,
-            5 => p.abs_diff(q) == c,
+            5 => p.abs_diff(q).abs_diff(c) <= u64::from(ENCODER_TOLERANCE),
             kind => unreachable!("a sheet that was read has no kind {kind}"),
         }
     }

@@ -65,6 +65,16 @@ fn edger_widths() {
     assert!((1..=5).all(|kind| last(&edges(kind, 1_000_001), &[Call::Open]) == Err(3)));
 }
 
+/// Distances around 0, 100 and 1,000,000, with either setting the larger, under two rules of kind 5 with c.
+#[test]
+fn equal_within_the_encoder() {
+    let far = [13, 0, 1, 2, 3, 4, 5, 97, 98, 102, 103, 999_997, 999_998, 1_000_000];
+    let opened = |c| last(&groups(&[&[3][..], &far, &[1, 0], &far, &[24, 2, 0, 1, 5, c, 1, 2, 5, c]].concat()), &[Call::Open]);
+    for (c, allowed) in [(0, 0x7), (1, 0xF), (2, 0x1F), (100, 0x180), (1_000_000, 0x1800)] {
+        assert_eq!(opened(c), Ok(vec![allowed, 1, allowed]));
+    }
+}
+
 #[test]
 fn sixty_four_events() {
     let mut calls = vec![Call::Open];

@@ -25,6 +25,12 @@ pub enum Fault {
     ShortReach,
     /// q + c is compared modulo this number.
     Wraps(u32),
+    /// Kind 5 allows distances that differ from c by at most this number.
+    Tolerance(u32),
+    /// Kind 5 allows no distance below c.
+    OnlyAbove,
+    /// Kind 5 allows every distance below c: c is subtracted from it, and the difference stops at 0.
+    StopsAtZero,
     /// Settings and c are read up to 65,535 only.
     LowerLimit,
     /// 1,000,001 is read, as 1,000,000.
@@ -56,7 +62,7 @@ pub enum Fault {
 }
 
 impl Fault {
-    pub const ALL: [Fault; 22] = [
+    pub const ALL: [Fault; 27] = [
         Fault::Restores,
         Fault::RecordsOnly,
         Fault::OnlyCloses,
@@ -65,6 +71,11 @@ impl Fault {
         Fault::ShortReach,
         Fault::Wraps(65_536),
         Fault::Wraps(1_000_000),
+        Fault::Tolerance(0),
+        Fault::Tolerance(1),
+        Fault::Tolerance(3),
+        Fault::OnlyAbove,
+        Fault::StopsAtZero,
         Fault::LowerLimit,
         Fault::HigherLimit,
         Fault::OffersOnRefusal,

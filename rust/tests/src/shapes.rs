@@ -2,7 +2,7 @@
 
 use crate::gadgets::far;
 use crate::Random;
-use solver::{Rule, Sheet, LARGEST_SETTING};
+use solver::{Rule, Sheet, ENCODER_TOLERANCE, LARGEST_SETTING};
 
 /// How large a sheet may be.
 #[derive(Clone, Copy, Debug, PartialEq, Eq)]
@@ -115,7 +115,7 @@ fn pairs(random: &mut Random, n: usize) -> Vec<(usize, usize)> {
     pairs
 }
 
-/// Settings one apart, some of them missing, and rules that ask for different ones, a few for equal ones.
+/// Settings one apart, some of them missing, and rules that ask for different ones, a few for equal ones or for a distance.
 fn unequal(random: &mut Random, frame: Frame) -> Sheet {
     let count = frame.settings.max(2);
     let first = random.pick(&[0, 1, WORD - count / 2, RANGE - count]) as u32;
@@ -129,7 +129,11 @@ fn unequal(random: &mut Random, frame: Frame) -> Sheet {
         settings.push(own);
     }
     let rule = |&(i, j): &(usize, usize)| {
-        let (kind, c) = if random.one_in(8) { (random.pick(&[4, 5]), 0) } else { (3, 1) };
+        let (kind, c) = match random.below(16) {
+            0 => (4, 0),
+            1 => (5, random.below(count + 2) as u32),
+            _ => (3, 1),
+        };
         Rule { i, j, kind, numbers: vec![c] }
     };
     Sheet { settings, reach: frame.reach, rules: frame.pairs.iter().map(rule).collect() }
@@ -180,13 +184,20 @@ fn mixed(random: &mut Random, frame: Frame) -> Sheet {
         let numbers = match kind {
             0 => settings[i].iter().map(|_| (random.word() | random.word()) as u32 % (1 << settings[j].len())).collect(),
             4 => vec![random.from(span / 4, span - 1) as u32],
-            5 if random.one_in(2) => vec![random.pick(&settings[i]).abs_diff(random.pick(&settings[j]))],
+            5 if random.one_in(2) => vec![near_distance(random, &settings[i], &settings[j])],
             _ if random.one_in(6) => vec![edge_amount(random)],
             _ => vec![random.below(span / 6 + 1) as u32],
         };
         rules.push(Rule { i, j, kind, numbers });
     }
     Sheet { settings, reach: frame.reach, rules }
+}
+
+/// A number c that differs from the distance of two settings by at most one more than kind 5 allows.
+fn near_distance(random: &mut Random, first: &[u32], second: &[u32]) -> u32 {
+    let most = ENCODER_TOLERANCE + 1;
+    let distance = random.pick(first).abs_diff(random.pick(second));
+    (distance + random.below(2 * most as usize + 1) as u32).saturating_sub(most).min(LARGEST_SETTING)
 }
 
 /// A number c near an end of the range, near where a word of 16 bits ends, or a large one between.

@@ -97,6 +97,19 @@ fn edger_widths() {
     }
 }
 
+/// Distances around 0, 100 and 1,000,000, with either setting the larger, under two rules of kind 5 with c.
+#[test]
+fn equal_within_the_encoder() {
+    let far = [13, 0, 1, 2, 3, 4, 5, 97, 98, 102, 103, 999_997, 999_998, 1_000_000];
+    let sheet = |c| [&[3][..], &far, &[1, 0], &far, &[24, 2, 0, 1, 5, c, 1, 2, 5, c]].concat();
+    for engine in Engine::ALL {
+        for (c, allowed) in [(0, 0x7), (1, 0xF), (2, 0x1F), (100, 0x180), (1_000_000, 0x1800)] {
+            let opened = last(&Sheet::from_bytes(groups(&sheet(c))), engine, &[Call::Open]);
+            assert_eq!(opened, Ok(vec![allowed, 1, allowed]));
+        }
+    }
+}
+
 #[test]
 fn sixty_four_events() {
     let sheet = Sheet::from_bytes(SHEET_D);

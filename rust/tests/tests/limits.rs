@@ -4,9 +4,10 @@ use belaykeel::{raw, EVENTS};
 use tests::repository::lines;
 
 /// The limits by their names in the code, and by their names in the header.
-const LIMITS: [(&str, &str, usize); 8] = [
+const LIMITS: [(&str, &str, usize); 9] = [
     ("MOST_FIELDS", "FIELDS", solver::MOST),
     ("LARGEST_SETTING", "LARGEST_SETTING", raw::LARGEST_SETTING as usize),
+    ("ENCODER_TOLERANCE", "ENCODER_TOLERANCE", raw::ENCODER_TOLERANCE as usize),
     ("MOST_EVENTS", "EVENTS", EVENTS),
     ("MOST_BYTES", "SHEET_BYTES", raw::SHEET_BYTES),
     ("MOST_NUMBERS", "SHEET_NUMBERS", raw::SHEET_NUMBERS),
@@ -22,8 +23,9 @@ fn header_and_wrapper() {
     let shown: Vec<String> = LIMITS.iter().map(|(_, name, limit)| format!("#define BELAYKEEL_{name} {limit} ")).collect();
     assert!(header.iter().zip(&shown).all(|(line, shown)| line.starts_with(shown)) && header.len() == shown.len(), "{header:?}");
     for (name, _, limit) in LIMITS {
-        let [word, size] = ["u32", "usize"].map(|kind| format!("pub const {name}: {kind} = {limit};"));
-        assert!(code.contains(&word) || code.contains(&size), "{name} is not {limit} in the code");
+        let named = ["u32", "u64", "usize"].map(|kind| format!("pub const {name}: {kind} = {limit};"));
+        assert!(named.iter().any(|line| code.contains(line)), "{name} is not {limit} in the code");
     }
     assert_eq!(solver::LARGEST_SETTING, raw::LARGEST_SETTING);
+    assert_eq!(solver::ENCODER_TOLERANCE, raw::ENCODER_TOLERANCE);
 }

@@ -9,7 +9,7 @@ use tests::Random;
 /// Two settings in each field; neighbours differ, but in an even ring those of the first rule agree.
 fn odd_ring(fields: usize, reach: u32) -> Sheet {
     let rule = |(place, (i, j))| {
-        let (kind, c) = if place == 0 && fields.is_multiple_of(2) { (5, 0) } else { (3, 1) };
+        let (kind, c) = if place == 0 && fields.is_multiple_of(2) { (4, 0) } else { (3, 1) };
         Rule { i, j, kind, numbers: vec![c] }
     };
     let rules = ring(fields).into_iter().enumerate().map(rule).collect();

@@ -1,6 +1,7 @@
 //! The network of a sheet, read from its list of numbers.
 
 use crate::{MOST, WHOLE_REACH};
+use belaykeel::raw::ENCODER_TOLERANCE;
 
 /// A rule between the fields i and j.
 pub struct Rule<'a> {
@@ -45,7 +46,7 @@ fn allowed(kind: u32, c: u32, p: u32, q: u32) -> bool {
         2 => q >= p + c,
         3 => p.abs_diff(q) >= c,
         4 => p.abs_diff(q) <= c,
-        _ => p.abs_diff(q) == c,
+        _ => p.abs_diff(q).abs_diff(c) <= ENCODER_TOLERANCE,
     }
 }
 

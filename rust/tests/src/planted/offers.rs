@@ -5,7 +5,7 @@ use crate::linked::words;
 use belaykeel::raw::Arguments;
 use belaykeel::Session;
 use solver::session::ledger;
-use solver::{reading, Call, Network, Set, Sheet, MOST};
+use solver::{reading, Call, Network, Set, Sheet, ENCODER_TOLERANCE, MOST};
 
 impl Planted {
     /// Spoils the offers that an accepted call wrote.
@@ -17,7 +17,8 @@ impl Planted {
             Fault::Restores => self.restore(call, masks),
             Fault::RecordsOnly if self.shown.len() == n && call != Call::Open => masks.copy_from_slice(&self.shown),
             Fault::LaterWords => given.offers[n..].iter_mut().take(1).for_each(|word| *word = 0),
-            Fault::OnlyCloses | Fault::OnePass | Fault::ShortReach | Fault::Wraps(_) => self.weaken(session, &sheet, given),
+            Fault::OnlyCloses | Fault::OnePass | Fault::ShortReach => self.weaken(session, &sheet, given),
+            Fault::Wraps(_) | Fault::Tolerance(_) | Fault::OnlyAbove | Fault::StopsAtZero => self.weaken(session, &sheet, given),
             Fault::ShortQueue if given.engine == 3 => self.weaken(session, &sheet, given),
             _ => (),
         }
@@ -47,8 +48,7 @@ impl Planted {
         let mut sheet = sheet.clone();
         match self.fault {
             Fault::ShortReach => sheet.reach = if sheet.reach == 24 { 24 } else { (sheet.reach - 1).max(1) },
-            Fault::Wraps(modulus) => wrap(&mut sheet, modulus),
-            _ => (),
+            _ => misread(&mut sheet, self.fault),
         }
         let network = Network::of(&sheet);
         let held = ledger(&words(session)).expect("the call was accepted");
@@ -96,15 +96,29 @@ pub fn short_queue(network: &Network, mut set: Set, order: &[u8]) -> Set {
     set
 }
 
-/// Rules of kinds 1 and 2 as tables, with sums modulo this number.
-fn wrap(sheet: &mut Sheet, modulus: u32) {
-    for rule in sheet.rules.iter_mut().filter(|rule| rule.kind == 1 || rule.kind == 2) {
-        let c = rule.numbers[0];
-        let (one, other) = (&sheet.settings[rule.i], &sheet.settings[rule.j]);
-        let kind = rule.kind;
-        let allowed = |p: u32, q: u32| if kind == 1 { p >= (q + c) % modulus } else { q >= (p + c) % modulus };
-        let row = |p: u32| (0..other.len()).filter(|&u| allowed(p, other[u])).map(|u| 1 << u).sum();
-        rule.numbers = one.iter().map(|&p| row(p)).collect();
-        rule.kind = 0;
+/// What a faulty reading of kinds 1, 2 or 5 allows, and nothing where the kind is read as it should be.
+fn misreading(fault: Fault, kind: u32, c: u32, p: u32, q: u32) -> Option<bool> {
+    let distance = p.abs_diff(q);
+    match (fault, kind) {
+        (Fault::Wraps(modulus), 1) => Some(p >= (q + c) % modulus),
+        (Fault::Wraps(modulus), 2) => Some(q >= (p + c) % modulus),
+        (Fault::Tolerance(most), 5) => Some(distance.abs_diff(c) <= most),
+        (Fault::OnlyAbove, 5) => Some((c..=c + ENCODER_TOLERANCE).contains(&distance)),
+        (Fault::StopsAtZero, 5) => Some(distance.saturating_sub(c) <= ENCODER_TOLERANCE),
+        _ => None,
+    }
+}
+
+/// The rules that are misread, as tables of what they are taken to allow.
+fn misread(sheet: &mut Sheet, fault: Fault) {
+    for rule in &mut sheet.rules {
+        let (kind, c) = (rule.kind, rule.numbers[0]);
+        let (first, second) = (&sheet.settings[rule.i], &sheet.settings[rule.j]);
+        let bit = |p, u: usize| misreading(fault, kind, c, p, second[u]).map(|allowed| u32::from(allowed) << u);
+        let rows: Option<Vec<u32>> = first.iter().map(|&p| (0..second.len()).map(|u| bit(p, u)).sum()).collect();
+        if let Some(numbers) = rows {
+            rule.kind = 0;
+            rule.numbers = numbers;
+        }
     }
 }
