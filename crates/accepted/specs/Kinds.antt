@@ -10,8 +10,8 @@ use Rattle.masks.specs.Pick.{pick}
 abbrev pub distance : ℕ → ℕ → ℕ
 distance p q = p - q + (q - p)
 
--- With p the setting of i and q, at position b, that of j; c is the rule's number, and for kind 0 the mask of p's position. Kind 5 is as 02,
--- request 6, has it: the distance differs from c by at most the tolerance.
+-- With p the setting of i and q, at position b, that of j; c is the rule's number, and for kind 0 the mask of p's position. Kind 5 is that
+-- of 02, request 6: the distance differs from c by at most the tolerance.
 abbrev pub allows : (kind c p q b : ℕ) → Bool
 allows kind c p q b =
     pick (eqb kind 0) (bit c b)
