@@ -25,7 +25,7 @@ extern "C" {
 #define BELAYKEEL_ROWS_WORDS 13248 /* the least words of the first work space */
 #define BELAYKEEL_MEMORY_WORDS 13824 /* the least words of the second work space */
 
-/* The numbers, in words. They are tried in the order 6; 1 to 5; 15, 7, 8, 9, 10, 11, 13, 12, 14; open skips 15. */
+/* The numbers, in words. They are tried in the order 6; 1 to 5; 15, 7, 8, 9, 10, 11, 13, 12, 14; open skips 15. Writing alone has 20. */
 enum {
     BELAYKEEL_ACCEPTED = 0,
     BELAYKEEL_ENDS_INSIDE = 1, /* bytes or numbers end inside the sheet */
@@ -42,7 +42,8 @@ enum {
     BELAYKEEL_NO_ROOM = 12, /* there are 64 events and one is to be added */
     BELAYKEEL_NOTHING_PAST = 13, /* back, and there is no event */
     BELAYKEEL_WIPED_OUT = 14, /* under the decisions that would hold after the call a field has no offer */
-    BELAYKEEL_MALFORMED = 15 /* the session is malformed */
+    BELAYKEEL_MALFORMED = 15, /* the session is malformed */
+    BELAYKEEL_RETIRED = 20 /* the writer met a rule of kind 2, which is read but no longer written */
 };
 
 /* The engines. None alters the offers; 1 and 3 serve every sheet. */
@@ -118,7 +119,8 @@ uint32_t belaykeel_coil_on(belaykeel_session *session, const uint8_t *sheet, siz
     size_t order_len, uint32_t *offers, size_t offers_len, uint32_t *rows, size_t rows_len, uint32_t *memory, size_t memory_len);
 
 /* Reads a sheet's bytes to its list of numbers, and writes such a list as bytes. Refused by 1 to 5 first and by 6 last; places past the
- * output stay as they were. */
+ * output stay as they were. Rules of kind 2 are read and not written: in the list such a kind is refused by 20, where no number before it
+ * is refused. */
 belaykeel_answer belaykeel_read(const uint8_t *sheet, size_t sheet_len, uint32_t *output, size_t output_len);
 belaykeel_answer belaykeel_write(const uint32_t *numbers, size_t numbers_len, uint8_t *output, size_t output_len);
 

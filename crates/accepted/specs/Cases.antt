@@ -6,7 +6,7 @@ use Prim.Native.Nat.{ℕ, _+_}
 use Rattle.masks.specs.Pick.{pick}
 use Rattle.groups.specs.Groups.{groups, numberAt, encode, encodeIn}
 use Rattle.grammar.specs.Grammar.{advance}
-use Rattle.sheet.specs.Sources.{Item, refusalFrom, refusal, numbers, items, ofBytes, ofNumbers, bytesOf}
+use Rattle.sheet.specs.Sources.{refusalFrom, refusal, numbers, items, ofBytes, ofNumbers, bytesOf, retiredFrom, writerRefusal}
 use Rattle.accepted.specs.Lists.{tabulate}
 use Rattle.accepted.specs.Kinds.{allows}
 
@@ -18,9 +18,9 @@ abbrev pub numbersOfD : List ℕ
 numbersOfD = 2 ∷ 3 ∷ 100 ∷ 200 ∷ 300 ∷ 3 ∷ 100 ∷ 200 ∷ 300 ∷ 24 ∷ 1 ∷ 0 ∷ 1 ∷ 1 ∷ 100 ∷ []
 
 pub sheet-D : (refusal (ofBytes D) ≡ 0) × (numbers (ofBytes D) ≡ numbersOfD) × (refusal (ofNumbers numbersOfD) ≡ 0)
-    × (bytesOf numbersOfD ≡ D)
-unfolding refusalFrom numbers items numberAt groups pick advance bytesOf encode encodeIn
-sheet-D = (refl, refl, refl, refl)
+    × (bytesOf numbersOfD ≡ D) × (writerRefusal numbersOfD ≡ 0)
+unfolding refusalFrom retiredFrom numbers items numberAt groups pick advance bytesOf encode encodeIn
+sheet-D = (refl, refl, refl, refl, refl)
 
 -- what the groups of a number refuse
 pub refused-groups : (refusal (ofBytes (0x80 ∷ 0x00 ∷ [])) ≡ 2) × (refusal (ofBytes (0x80 ∷ 0x80 ∷ 0x80 ∷ 0x80 ∷ [])) ≡ 2)
@@ -45,17 +45,21 @@ abbrev withAmount : ℕ → List ℕ → List ℕ
 withAmount kind c = 2 ∷ 1 ∷ 0 ∷ 1 ∷ 0 ∷ 24 ∷ 1 ∷ 0 ∷ 1 ∷ kind ∷ c
 
 -- the refusals of a number as a setting, and as the c of the kinds 1 to 5
-abbrev refusals : (List ℕ → List Item) → List ℕ → List ℕ
-refusals source x =
-    refusal (source (withSetting x)) ∷ refusal (source (withAmount 1 x)) ∷ refusal (source (withAmount 2 x))
-    ∷ refusal (source (withAmount 3 x)) ∷ refusal (source (withAmount 4 x)) ∷ refusal (source (withAmount 5 x)) ∷ []
+abbrev refusals : (List ℕ → ℕ) → List ℕ → List ℕ
+refusals refused x =
+    refused (withSetting x) ∷ refused (withAmount 1 x) ∷ refused (withAmount 2 x)
+    ∷ refused (withAmount 3 x) ∷ refused (withAmount 4 x) ∷ refused (withAmount 5 x) ∷ []
 
--- 1,000,000 is read, 1,000,001 is not; in numbers, then in bytes
-pub largest-setting : (refusals ofNumbers (1000000 ∷ []) ≡ 0 ∷ 0 ∷ 0 ∷ 0 ∷ 0 ∷ 0 ∷ [])
-    × (refusals ofNumbers (1000001 ∷ []) ≡ 3 ∷ 3 ∷ 3 ∷ 3 ∷ 3 ∷ 3 ∷ [])
-    × (refusals ofBytes (0xC0 ∷ 0x84 ∷ 0x3D ∷ []) ≡ 0 ∷ 0 ∷ 0 ∷ 0 ∷ 0 ∷ 0 ∷ [])
-    × (refusals ofBytes (0xC1 ∷ 0x84 ∷ 0x3D ∷ []) ≡ 3 ∷ 3 ∷ 3 ∷ 3 ∷ 3 ∷ 3 ∷ [])
-unfolding refusalFrom items numberAt groups pick advance
+-- bytes that are read
+abbrev unread : List ℕ → ℕ
+unread s = refusal (ofBytes s)
+
+-- 1,000,000 is written and read, 1,000,001 is not; kind 2 is not written
+pub largest-setting : (refusals writerRefusal (1000000 ∷ []) ≡ 0 ∷ 0 ∷ 20 ∷ 0 ∷ 0 ∷ 0 ∷ [])
+    × (refusals writerRefusal (1000001 ∷ []) ≡ 3 ∷ 3 ∷ 20 ∷ 3 ∷ 3 ∷ 3 ∷ [])
+    × (refusals unread (0xC0 ∷ 0x84 ∷ 0x3D ∷ []) ≡ 0 ∷ 0 ∷ 0 ∷ 0 ∷ 0 ∷ 0 ∷ [])
+    × (refusals unread (0xC1 ∷ 0x84 ∷ 0x3D ∷ []) ≡ 3 ∷ 3 ∷ 3 ∷ 3 ∷ 3 ∷ 3 ∷ [])
+unfolding refusalFrom retiredFrom items numberAt groups pick advance
 largest-setting = (refl, refl, refl, refl)
 
 -- ---- what the kinds allow near 65,536 and near 1,000,000
@@ -102,3 +106,28 @@ pub equal-within-encoder : (equals 100 97 7 ≡ twice (0 ∷ 1 ∷ 1 ∷ 1 ∷ 1
     × (equals 1000000 999997 4 ≡ twice (0 ∷ 1 ∷ 1 ∷ 1 ∷ []))
 unfolding pick tabulate
 equal-within-encoder = (refl, refl, refl, refl, refl)
+
+-- ---- the retired kind (02, request 9)
+
+-- kind 2 is read; it is not written, also where the list ends after it, goes on with a number out of range, or has one too many
+pub retired-kind : (unread (withAmount 2 (5 ∷ [])) ≡ 0) × (numbers (ofBytes (withAmount 2 (5 ∷ []))) ≡ withAmount 2 (5 ∷ []))
+    × (writerRefusal (withAmount 2 (5 ∷ [])) ≡ 20) × (writerRefusal (withAmount 2 []) ≡ 20)
+    × (writerRefusal (withAmount 2 (1000001 ∷ [])) ≡ 20) × (writerRefusal (withAmount 2 (5 ∷ 0 ∷ [])) ≡ 20)
+unfolding refusalFrom retiredFrom numbers items numberAt groups pick advance
+retired-kind = (refl, refl, refl, refl, refl, refl)
+
+-- before kind 2: a setting out of range; settings that do not rise; i = j; the end. A kind of 6 is out of range. Kind 2 after kind 6.
+pub faults-before : (writerRefusal (2 ∷ 1 ∷ 1000001 ∷ 1 ∷ 0 ∷ 24 ∷ 1 ∷ 0 ∷ 1 ∷ 2 ∷ 5 ∷ []) ≡ 3)
+    × (writerRefusal (2 ∷ 2 ∷ 7 ∷ 7 ∷ 1 ∷ 0 ∷ 24 ∷ 1 ∷ 0 ∷ 1 ∷ 2 ∷ 5 ∷ []) ≡ 4)
+    × (writerRefusal (2 ∷ 1 ∷ 0 ∷ 1 ∷ 0 ∷ 24 ∷ 1 ∷ 1 ∷ 1 ∷ 2 ∷ 5 ∷ []) ≡ 4)
+    × (writerRefusal (2 ∷ 1 ∷ 0 ∷ 1 ∷ 0 ∷ 24 ∷ 1 ∷ 0 ∷ 1 ∷ []) ≡ 1)
+    × (writerRefusal (withAmount 6 (5 ∷ [])) ≡ 3)
+    × (writerRefusal (3 ∷ 1 ∷ 0 ∷ 1 ∷ 0 ∷ 1 ∷ 0 ∷ 24 ∷ 2 ∷ 0 ∷ 1 ∷ 6 ∷ 5 ∷ 0 ∷ 2 ∷ 2 ∷ 5 ∷ []) ≡ 3)
+unfolding refusalFrom retiredFrom pick advance
+faults-before = (refl, refl, refl, refl, refl, refl)
+
+-- 2 at every place but that of a kind: fields, counts, settings, reach, rules, i, j, masks, c
+pub other-twos : (writerRefusal (2 ∷ 2 ∷ 2 ∷ 3 ∷ 2 ∷ 2 ∷ 3 ∷ 2 ∷ 1 ∷ 0 ∷ 1 ∷ 0 ∷ 2 ∷ 2 ∷ []) ≡ 0)
+    × (writerRefusal (4 ∷ 1 ∷ 2 ∷ 1 ∷ 2 ∷ 1 ∷ 2 ∷ 1 ∷ 2 ∷ 2 ∷ 2 ∷ 1 ∷ 2 ∷ 1 ∷ 2 ∷ 2 ∷ 3 ∷ 3 ∷ 2 ∷ []) ≡ 0)
+unfolding refusalFrom retiredFrom pick advance
+other-twos = (refl, refl)

@@ -16,8 +16,9 @@ pub mod Facts
 pub mod Lists
 pub mod Outline
 pub mod Order
+pub mod Refused
+pub mod FirstFault
 pub mod Theorems
 pub mod Reads
 pub mod Produces
-pub mod Refused
 pub mod Cases

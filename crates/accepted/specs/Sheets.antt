@@ -1,10 +1,12 @@
 -- A sheet as fields, a reach and rules, its numbers, and what makes it right. Assumes nothing.
 use mathlib.Core.Path.{_≡_}
 use mathlib.Core.Logic.{_⊎_}
+use mathlib.Core.Bool.{Bool, false, _||_}
 use mathlib.Core.List.{List, [], _∷_, _++_}
 use Prim.Native.Nat.{ℕ, _+_, _^_, _<_, _≤_}
+use lib.Dec.{eqb}
 use lib.ListN.{length, getD}
-use Rattle.limits.specs.Limits.{mostFields, mostSettings, largestSetting, wholeReach, mostRules, lastKind}
+use Rattle.limits.specs.Limits.{mostFields, mostSettings, largestSetting, wholeReach, mostRules, lastKind, retiredKind}
 use Rattle.grammar.specs.Grammar.{key}
 
 -- a rule: its fields i and j, its kind, and its numbers: masks, or c
@@ -68,6 +70,11 @@ pub data Ruled (n : ℕ) (d : ℕ → ℕ) : ℕ → List Rule → Type 0 where
   ruled-none : {floor : ℕ} → Ruled n d floor []
   ruled-one : {floor : ℕ} {r : Rule} {rs : List Rule} → floor ≤ key (r .i) (r .j) → RuleRight n d r → Ruled n d (key (r .i) (r .j) + 1) rs
       → Ruled n d floor (r ∷ rs)
+
+-- whether some rule is of the retired kind, which the writer refuses
+unfoldable pub retiredRules : List Rule → Bool
+retiredRules [] = false
+retiredRules (r ∷ rs) = eqb (r .kind) retiredKind || retiredRules rs
 
 -- the count of a field's settings
 abbrev pub counted : Sheet → ℕ → ℕ

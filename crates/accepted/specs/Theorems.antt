@@ -9,21 +9,35 @@ use lib.ListN.{length}
 use borrow.Author.Tests.{le-leb, eq-eqb, eqb-true}
 use Rattle.masks.specs.Pick.{pick, pick-true, pick-false}
 use Rattle.limits.specs.Limits.{mostBytes, mostNumbers}
+use Rattle.limits.specs.Refusals.{RETIRED}
 use Rattle.sheet.specs.Sources.{refusal, numbers, ofBytes, ofNumbers, bytesOf, Accepted, AcceptedBytes, produced, refusing, giving, reading}
-use Rattle.sheet.specs.Sources.{writing}
+use Rattle.sheet.specs.Sources.{retired, writerRefusal, Writable, writing}
 use Rattle.accepted.specs.Round.{numbers-bytes, bytes-numbers}
 use Rattle.accepted.specs.Accept.{accepted-numbers, bytes-accepted}
-use Rattle.accepted.specs.Sheets.{IsSheet}
+use Rattle.accepted.specs.Sheets.{retiredRules, IsSheet}
 use Rattle.accepted.specs.AcceptedSheet.{sheet-in}
-use Rattle.accepted.specs.RightSheet.{right-accepted}
+use Rattle.accepted.specs.RightSheet.{right-taken}
 use Rattle.accepted.specs.Sizes.{sized-in}
+use Rattle.accepted.specs.FirstFault.{writable-unretired, writable-accepted, accepted-writable}
 
 -- Just the numbers of right sheets are accepted.
 pub accepted-right : (xs : List ℕ) → Accepted xs → IsSheet xs
 accepted-right xs e = sheet-in xs e
 
 pub right-is-accepted : (xs : List ℕ) → IsSheet xs → Accepted xs
-right-is-accepted xs t = rw (t .split) (right-accepted (t .sheet) (t .right))
+right-is-accepted xs t = rw (t .split) (right-taken (t .sheet) (t .right) .0)
+
+-- The retired kind is met in the numbers of a right sheet just where a rule has it.
+pub right-retired : (xs : List ℕ) (t : IsSheet xs) → retired xs ≡ retiredRules (t .sheet .rules)
+right-retired xs t = rw (t .split) (right-taken (t .sheet) (t .right) .1)
+
+-- Just the numbers of right sheets with no rule of the retired kind are written.
+pub writable-right : (xs : List ℕ) → Writable xs → (t : IsSheet xs) × (retiredRules (t .sheet .rules) ≡ false)
+writable-right xs w =
+    let t = accepted-right xs (writable-accepted xs w) in (t, sym (right-retired xs t) ∙ writable-unretired xs w)
+
+pub right-is-writable : (xs : List ℕ) (t : IsSheet xs) → retiredRules (t .sheet .rules) ≡ false → Writable xs
+right-is-writable xs t h = accepted-writable xs (right-is-accepted xs t) (right-retired xs t ∙ h)
 
 -- An accepted sheet has at most 8,055 numbers and 29,080 bytes.
 pub most-numbers : (xs : List ℕ) → Accepted xs → length xs ≤ mostNumbers
@@ -41,37 +55,44 @@ numbers-of (x ∷ xs) = ap (λ (l : List ℕ). x ∷ l) (numbers-of xs)
 same-numbers : (xs : List ℕ) → Accepted xs → ofBytes (bytesOf xs) ≡ ofNumbers xs
 same-numbers xs e = numbers-bytes xs (sized-in xs e .below)
 
--- Accepted bytes are the bytes of their numbers.
-same-bytes : (s : List ℕ) → AcceptedBytes s → bytesOf (numbers (ofBytes s)) ≡ s
-same-bytes s e = sym (bytes-numbers (numbers (ofBytes s)) s (accepted-numbers (ofBytes s) e))
+-- The numbers that reading gives are exact: every accepted sheet's bytes are theirs, whatever its kinds.
+pub exact : (s : List ℕ) → AcceptedBytes s → bytesOf (numbers (ofBytes s)) ≡ s
+exact s e = sym (bytes-numbers (numbers (ofBytes s)) s (accepted-numbers (ofBytes s) e))
 
 -- a source that is accepted, over an output with room for its values
 given : (number : ℕ) (values before : List ℕ) → number ≡ 0 → length values ≤ length before
     → produced number values before ≡ giving values before
 given number values before z h = pick-true _ _ _ (eq-eqb number 0 z) ∙ pick-true _ _ _ (le-leb (length values) (length before) h)
 
--- Written, then read: the same numbers, for every accepted list; whatever room is lent, and with room for them.
-pub written-read-in : (xs before : List ℕ) → Accepted xs → reading (bytesOf xs) before ≡ produced 0 xs before
-written-read-in xs before e =
+-- Written, then read: the same numbers, for every list that is written; whatever room is lent, and with room for them.
+pub written-read-in : (xs before : List ℕ) → Writable xs → reading (bytesOf xs) before ≡ produced 0 xs before
+written-read-in xs before w =
+    let e = writable-accepted xs w in
     ap₂ (λ (number : ℕ) (values : List ℕ). produced number values before) (ap refusal (same-numbers xs e) ∙ e)
     (ap numbers (same-numbers xs e) ∙ numbers-of xs)
 
-pub written-read : (xs before : List ℕ) → Accepted xs → length xs ≤ length before → reading (bytesOf xs) before ≡ giving xs before
-written-read xs before e h = written-read-in xs before e ∙ given 0 xs before refl h
+pub written-read : (xs before : List ℕ) → Writable xs → length xs ≤ length before → reading (bytesOf xs) before ≡ giving xs before
+written-read xs before w h = written-read-in xs before w ∙ given 0 xs before refl h
 
--- Read, then written: the same bytes, for every accepted sheet; whatever room is lent, and with room for them.
-pub read-written-in : (s before : List ℕ) → AcceptedBytes s
+-- Read, then written: the same bytes, for every accepted sheet without the retired kind; whatever room is lent, and with room for them.
+pub read-written-in : (s before : List ℕ) → AcceptedBytes s → retired (numbers (ofBytes s)) ≡ false
     → writing (numbers (ofBytes s)) before ≡ produced 0 s before
-read-written-in s before e =
-    ap₂ (λ (number : ℕ) (values : List ℕ). produced number values before) (bytes-accepted s e) (same-bytes s e)
+read-written-in s before e h =
+    ap₂ (λ (number : ℕ) (values : List ℕ). produced number values before) (accepted-writable _ (bytes-accepted s e) h) (exact s e)
 
-pub read-written : (s before : List ℕ) → AcceptedBytes s → length s ≤ length before
+pub read-written : (s before : List ℕ) → AcceptedBytes s → retired (numbers (ofBytes s)) ≡ false → length s ≤ length before
     → writing (numbers (ofBytes s)) before ≡ giving s before
-read-written s before e l = read-written-in s before e ∙ given 0 s before refl l
+read-written s before e h l = read-written-in s before e h ∙ given 0 s before refl l
+
+-- A sheet with the retired kind is read, and its numbers are refused by 20, with the output as it was.
+pub read-refused : (s before : List ℕ) → retired (numbers (ofBytes s)) ≡ true
+    → writing (numbers (ofBytes s)) before ≡ refusing RETIRED before
+unfolding pick
+read-refused s before h = rw h
 
 -- An accepted sheet has at most 29,080 bytes and 8,055 numbers, whichever of the two it is given as.
 pub most-sheet-bytes : (s : List ℕ) → AcceptedBytes s → length s ≤ mostBytes
-most-sheet-bytes s e = rw (← same-bytes s e) (most-bytes _ (bytes-accepted s e))
+most-sheet-bytes s e = rw (← exact s e) (most-bytes _ (bytes-accepted s e))
 
 pub most-sheet-numbers : (s : List ℕ) → AcceptedBytes s → length (numbers (ofBytes s)) ≤ mostNumbers
 most-sheet-numbers s e = most-numbers (numbers (ofBytes s)) (bytes-accepted s e)

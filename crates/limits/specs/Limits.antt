@@ -29,6 +29,10 @@ mostRules = 276
 abbrev pub lastKind : ℕ
 lastKind = 5
 
+-- the kind that is read but no longer written (02, request 9)
+abbrev pub retiredKind : ℕ
+retiredKind = 2
+
 -- the bytes of a sheet, and its numbers
 abbrev pub mostBytes : ℕ
 mostBytes = 29080

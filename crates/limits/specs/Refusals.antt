@@ -1,4 +1,4 @@
--- The numbers of the refusals (01's table), under the names that they have in code and header. Assumes nothing.
+-- The numbers of the refusals (01's table, and 02), under the names that they have in code and header. Assumes nothing.
 use Prim.Native.Nat.{ℕ}
 
 -- bytes or numbers end inside the sheet
@@ -60,3 +60,7 @@ WIPED-OUT = 14
 -- the session is malformed
 abbrev pub MALFORMED : ℕ
 MALFORMED = 15
+
+-- the writer met the retired kind (02, request 9)
+abbrev pub RETIRED : ℕ
+RETIRED = 20

@@ -24,6 +24,9 @@ pub const MOST_RULES: u32 = 276;
 
 pub const LAST_KIND: u32 = 5;
 
+// The kind that is read but no longer written.
+pub const RETIRED_KIND: u32 = 2;
+
 // The most bytes and the most numbers of a sheet.
 pub const MOST_BYTES: usize = 29080;
 

@@ -1,4 +1,4 @@
-// The numbers of the refusals (01's table). `specs/Refusals.antt` has the same names.
+// The numbers of the refusals (01's table, and 02). `specs/Refusals.antt` has the same names.
 pub const ENDS_INSIDE: u32 = 1;
 
 pub const ILL_FORMED: u32 = 2;
@@ -28,3 +28,5 @@ pub const NOTHING_PAST: u32 = 13;
 pub const WIPED_OUT: u32 = 14;
 
 pub const MALFORMED: u32 = 15;
+
+pub const RETIRED: u32 = 20;

@@ -3,3 +3,4 @@ pub mod Sources
 -- laws that the functions' proofs use
 pub mod Items
 pub mod Progress
+pub mod Retired

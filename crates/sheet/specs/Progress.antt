@@ -86,7 +86,7 @@ numbers-none = (refl, refl, refl)
 
 -- ---- a list's numbers from place k on
 
-list-next : (xs : List ℕ) (k : ℕ) → k < length xs → drop k xs ≡ getD xs k 0 ∷ drop (k + 1) xs
+pub list-next : (xs : List ℕ) (k : ℕ) → k < length xs → drop k xs ≡ getD xs k 0 ∷ drop (k + 1) xs
 list-next xs k h = drop-cons xs k 0 h ∙ ap (λ (i : ℕ). getD xs k 0 ∷ drop i xs) (sym (add-one k))
 
 pub items-next : (xs : List ℕ) (k : ℕ) → k < length xs → ofNumbers (drop k xs) ≡ num (getD xs k 0) ∷ ofNumbers (drop (k + 1) xs)
@@ -102,26 +102,26 @@ bytes-end xs k h = ap bytesOf (drop-of-length-le xs h)
 
 -- ---- a call that checks a source, then the room, and then writes the values; a is what the check answers
 
-module _ (is : List Item) (values before : List ℕ) (a : Answer) (e : a ≡ checked is values) where
-  number-is : a .number ≡ refusal is
+module _ (number : ℕ) (values before : List ℕ) (a : Answer) (e : a ≡ answered number (length values)) where
+  number-is : a .number ≡ number
   number-is = ap (λ (r : Answer). r .number) e
 
   length-is : a .number ≡ 0 → a .length ≡ length values
   length-is z = ap (λ (r : Answer). r .length) e ∙ pick-true _ _ _ (eq-eqb _ 0 (sym number-is ∙ z))
 
-  gives : (o : Produced) (r : Answer) (after : List ℕ) → produced (refusal is) values before ≡ o → r ≡ o .answer → after ≡ o .output
-      → Gives (produced (refusal is) values before) r after
+  gives : (o : Produced) (r : Answer) (after : List ℕ) → produced number values before ≡ o → r ≡ o .answer → after ≡ o .output
+      → Gives (produced number values before) r after
   gives o r after q p s =
       record { answers = p ∙ ap (λ (x : Produced). x .answer) (sym q); outputs = s ∙ ap (λ (x : Produced). x .output) (sym q) }
 
-  pub gives-refused : (a .number ≡ 0 → ⊥) → Gives (produced (refusal is) values before) a before
+  pub gives-refused : (a .number ≡ 0 → ⊥) → Gives (produced number values before) a before
   gives-refused h =
-      let z : eqb (refusal is) 0 ≡ false = ne-eqb _ 0 (λ q. h (number-is ∙ q)) in
-      gives (refusing (refusal is) before) a before (pick-false _ _ _ z)
-      (e ∙ ap (λ (l : ℕ). record { number = refusal is; length = l }) (pick-false _ _ _ z ∙ sym (pick-false _ 0 0 z))) refl
+      let z : eqb number 0 ≡ false = ne-eqb _ 0 (λ q. h (number-is ∙ q)) in
+      gives (refusing number before) a before (pick-false _ _ _ z)
+      (e ∙ ap (λ (l : ℕ). record { number = number; length = l }) (pick-false _ _ _ z ∙ sym (pick-false _ 0 0 z))) refl
 
   pub gives-short : (r : Answer) → a .number ≡ 0 → length before < a .length → r ≡ answered TOO-SHORT 0
-      → Gives (produced (refusal is) values before) r before
+      → Gives (produced number values before) r before
   gives-short r z h q =
       gives (refusing TOO-SHORT before) r before
       (pick-true _ _ _ (eq-eqb _ 0 (sym number-is ∙ z)) ∙ pick-false _ _ _ (lt-leb (length values) (length before) (rw (length-is z) at h)))
@@ -131,9 +131,9 @@ module _ (is : List Item) (values before : List ℕ) (a : Answer) (e : a ≡ che
   gives-room z h = rw (length-is z) at h
 
   pub gives-values : (after : List ℕ) → a .number ≡ 0 → a .length ≤ length before → after ≡ sets before 0 values
-      → Gives (produced (refusal is) values before) a after
+      → Gives (produced number values before) a after
   gives-values after z h q =
-      let v : refusal is ≡ 0 = sym number-is ∙ z in
+      let v : number ≡ 0 = sym number-is ∙ z in
       gives (giving values before) a after
       (pick-true _ _ _ (eq-eqb _ 0 v) ∙ pick-true _ _ _ (le-leb (length values) (length before) (gives-room z h)))
       (e ∙ ap (λ (k : ℕ). answered k (length values)) v) (q ∙ sets-front before values (gives-room z h))

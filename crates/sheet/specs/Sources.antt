@@ -1,6 +1,7 @@
 -- A source of numbers, bytes or a list: 0 where it is a sheet, and else the number of its refusal; and what reading and writing give.
 -- Assumes nothing.
 use mathlib.Core.Path.{_≡_}
+use mathlib.Core.Bool.{Bool, false, _||_}
 use mathlib.Core.List.{List, [], _∷_, _++_, map}
 use Prim.Native.Nat.{ℕ, zero, suc, _-_}
 use lib.Dec.{ltb, leb, eqb}
@@ -9,9 +10,11 @@ use Rattle.masks.specs.Pick.{pick}
 use Rattle.groups.specs.Groups.{numberAt, encode}
 use Rattle.groups.specs.declared.groups.Number.{Number}
 use Rattle.groups.specs.declared.groups.Number.the-variants.{Value, Ended, IllFormed}
-use Rattle.limits.specs.Refusals.{ENDS-INSIDE, ILL-FORMED, OUT-OF-RANGE, OUT-OF-ORDER, SURPLUS, TOO-SHORT}
+use Rattle.limits.specs.Limits.{retiredKind}
+use Rattle.limits.specs.Refusals.{ENDS-INSIDE, ILL-FORMED, OUT-OF-RANGE, OUT-OF-ORDER, SURPLUS, TOO-SHORT, RETIRED}
 use Rattle.grammar.specs.Grammar.{advance, start, noCounts, atEnd}
 use Rattle.grammar.specs.declared.grammar.Expected.{Expected}
+use Rattle.grammar.specs.declared.grammar.Expected.the-variants.{Fields, Count, Setting, Reach, Rules, First, Second, Kind, Mask, Amount}
 use Rattle.grammar.specs.declared.grammar.State.{State}
 use Rattle.grammar.specs.declared.grammar.State.the-variants.{Wants, Complete, OutOfRange, OutOfOrder}
 use Rattle.sheet.specs.declared.answer.Answer.{Answer}
@@ -85,6 +88,42 @@ unfoldable pub bytesOf : List ℕ → List ℕ
 bytesOf [] = []
 bytesOf (x ∷ xs) = encode x ++ bytesOf xs
 
+-- ---- the writer's own refusal: a kind is read that is no longer written (02, request 9)
+
+-- x is the retired kind, where a kind is expected
+abbrev pub isRetired : Expected → ℕ → Bool
+isRetired Fields x = false
+isRetired (Count f) x = false
+isRetired (Setting f more floor) x = false
+isRetired Reach x = false
+isRetired Rules x = false
+isRetired (First rules floor) x = false
+isRetired (Second rules floor i) x = false
+isRetired (Kind rules i j) x = eqb x retiredKind
+isRetired (Mask rules floor j more) x = false
+isRetired (Amount rules floor) x = false
+
+-- Number after number from a state on: whether the retired kind is met before a fault of the grammar.
+unfoldable pub retiredFrom : State → List ℕ → List ℕ → Bool
+retiredFrom st ds [] = false
+retiredFrom (Wants n e) ds (x ∷ xs) = isRetired e x || retiredFrom (advance n e ds x .0) (advance n e ds x .1) xs
+retiredFrom Complete ds (x ∷ xs) = false
+retiredFrom OutOfRange ds (x ∷ xs) = false
+retiredFrom OutOfOrder ds (x ∷ xs) = false
+
+-- so from the beginning of a list on
+abbrev pub retired : List ℕ → Bool
+retired xs = retiredFrom start noCounts xs
+
+-- The number of a list's refusal by the writer, 0 where it is written. The retired kind, met before a fault of the grammar, is the first
+-- fault; it is in the range of the kinds, so that no 3 for that number comes before it. Where it is not met, the grammar decides.
+abbrev pub writerRefusal : List ℕ → ℕ
+writerRefusal xs = pick (retired xs) RETIRED (refusal (ofNumbers xs))
+
+-- A list of numbers that is written, where there is room.
+abbrev pub Writable : List ℕ → Type 0
+Writable xs = writerRefusal xs ≡ 0
+
 -- ---- what a call gives
 
 -- a number, and a length that is 0 for a refusal
@@ -94,6 +133,10 @@ answered number size = record { number = number; length = pick (eqb number 0) si
 -- a source checked, with the length of what it would give
 abbrev pub checked : List Item → List ℕ → Answer
 checked is values = answered (refusal is) (length values)
+
+-- a list checked for the writer
+abbrev pub checkedList : List ℕ → Answer
+checkedList xs = answered (writerRefusal xs) (length (bytesOf xs))
 
 -- An answer, and what the output holds after the call.
 pub record Produced : Type 0 where
@@ -108,7 +151,7 @@ refusing number before = record { answer = answered number 0; output = before }
 abbrev pub giving : List ℕ → List ℕ → Produced
 giving values before = record { answer = answered 0 (length values); output = values ++ drop (length values) before }
 
--- checks 1 to 5 come first, and 6 last
+-- checks 1 to 5, and the writer's 20, come first, and 6 last
 abbrev pub produced : (number : ℕ) (values before : List ℕ) → Produced
 produced number values before =
     pick (eqb number 0)
@@ -121,7 +164,7 @@ reading s before = produced (refusal (ofBytes s)) (numbers (ofBytes s)) before
 
 -- Writing the numbers xs as bytes.
 abbrev pub writing : List ℕ → List ℕ → Produced
-writing xs before = produced (refusal (ofNumbers xs)) (bytesOf xs) before
+writing xs before = produced (writerRefusal xs) (bytesOf xs) before
 
 -- A call's answer and its output afterwards are those that are produced.
 pub record Gives (o : Produced) (answer : Answer) (after : List ℕ) : Type 0 where

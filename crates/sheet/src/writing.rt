@@ -4,7 +4,7 @@ ghost use Prim.Native.Nat.{_≤_};
 ghost use lib.ListN.{length, replicate};
 ghost use lib.Seq.{sets};
 ghost use Rattle.limits.specs.Limits.{mostFields};
-ghost use Rattle.sheet.specs.Sources.{checked, Gives, writing, ofNumbers, bytesOf};
+ghost use Rattle.sheet.specs.Sources.{isRetired, checkedList, Gives, writing, bytesOf};
 use super::answer::Answer;
 use super::answer::answered;
 use grammar::grammar::Expected;
@@ -14,15 +14,27 @@ use grammar::grammar::at_end;
 use groups::groups::put;
 use groups::groups::size;
 use limits::MOST_FIELDS;
+use limits::RETIRED_KIND;
 use limits::refusals::OUT_OF_ORDER;
 use limits::refusals::OUT_OF_RANGE;
+use limits::refusals::RETIRED;
 use limits::refusals::SURPLUS;
 use limits::refusals::TOO_SHORT;
+
+// Whether x is the retired kind, where a kind is expected. The grammar takes it, for the reader; the writer alone refuses it.
+fn is_retired(expected: Expected, x: u32) -> bool
+    ensures { λ r. ⌜ r ≡ isRetired expected x ⌝ }
+{
+    match expected {
+        Expected::Kind(_, _, _) => x == RETIRED_KIND,
+        _ => false,
+    }
+}
 
 // `counts` is room for the counts of the fields.
 fn check_with(numbers: &[u32], counts: &mut [u32]) -> Answer
     requires { ⌜ now counts ≡ replicate mostFields 0 ⌝ }
-    ensures { λ r. ⌜ r ≡ checked (ofNumbers (now (numbers .entry))) (bytesOf (now (numbers .entry))) ⌝ }
+    ensures { λ r. ⌜ r ≡ checkedList (now (numbers .entry)) ⌝ }
 {
     let mut state = State::Wants(0, Expected::Fields);
     let mut k: usize = 0;
@@ -31,6 +43,9 @@ fn check_with(numbers: &[u32], counts: &mut [u32]) -> Answer
         match state {
             State::Wants(n, expected) => {
                 let x = numbers[k];
+                if is_retired(expected, x) {
+                    return answered(RETIRED, 0);
+                }
                 state = advance(n, expected, counts, x);
                 bytes += size(x);
                 k += 1;
@@ -43,9 +58,9 @@ fn check_with(numbers: &[u32], counts: &mut [u32]) -> Answer
     answered(at_end(state), bytes)
 }
 
-// Whether the numbers are a sheet, and how many bytes it has.
+// Whether the numbers are a sheet that is written, and how many bytes it has.
 pub fn check(numbers: &[u32]) -> Answer
-    ensures { λ r. ⌜ r ≡ checked (ofNumbers (now (numbers .entry))) (bytesOf (now (numbers .entry))) ⌝ }
+    ensures { λ r. ⌜ r ≡ checkedList (now (numbers .entry)) ⌝ }
 {
     let mut counts = [0u32; MOST_FIELDS as usize];
     check_with(numbers, &mut counts)

@@ -66,6 +66,23 @@ fn write_cases() {
     write_case(b"list, a word past four groups", &[1, 1, 268435456, 24, 0]);
 }
 
+// The retired kind: read, and not written where no number before it is at fault.
+fn retired_cases() {
+    read_case(b"kind 2", b"\x02\x01\x00\x01\x00\x18\x01\x00\x01\x02\x05");
+    write_case(b"list, kind 2", &[2, 1, 0, 1, 0, 24, 1, 0, 1, 2, 5]);
+    write_case(b"list, ends after kind 2", &[2, 1, 0, 1, 0, 24, 1, 0, 1, 2]);
+    write_case(b"list, ends before kind 2", &[2, 1, 0, 1, 0, 24, 1, 0, 1]);
+    write_case(
+        b"list, kind 2, surplus",
+        &[2, 1, 0, 1, 0, 24, 1, 0, 1, 2, 5, 0],
+    );
+    write_case(
+        b"list, setting 1000001, kind 2",
+        &[2, 1, 1000001, 1, 0, 24, 1, 0, 1, 2, 5],
+    );
+    write_case(b"list, kind 6", &[2, 1, 0, 1, 0, 24, 1, 0, 1, 6, 5]);
+}
+
 // A rule of a kind with c, by its groups: in bytes, and as a list.
 fn amount_case(name: &[u8], kind: u8, groups: [u8; 3], c: u32) {
     let low = groups[0];
@@ -205,6 +222,7 @@ fn main() {
     amount_cases(b", c 65536", [0x80, 0x80, 0x04], 65536);
     amount_cases(b", c 1000000", [0xC0, 0x84, 0x3D], 1000000);
     amount_cases(b", c 1000001", [0xC1, 0x84, 0x3D], 1000001);
+    retired_cases();
     short_cases();
     largest_case();
 }

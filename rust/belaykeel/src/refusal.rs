@@ -15,7 +15,7 @@ macro_rules! refusals {
 
         impl Refusal {
             /// Every refusal, by rising number.
-            pub const ALL: [Refusal; 15] = [$(Refusal::$name,)*];
+            pub const ALL: [Refusal; 16] = [$(Refusal::$name,)*];
 
             fn sentence(self) -> &'static str {
                 match self {
@@ -42,10 +42,11 @@ refusals! {
     13 NothingPast "Back, and there is no event."
     14 WipedOut "Under the decisions that would hold after the call a field has no offer."
     15 Malformed "The session is malformed."
+    20 Retired "The writer met a rule of kind 2, which is read but no longer written."
 }
 
 impl Refusal {
-    /// The number of the refusal, 1 to 15.
+    /// The number of the refusal, 1 to 15 or 20.
     pub fn number(self) -> u32 {
         self as u32
     }
@@ -55,13 +56,14 @@ impl Refusal {
     /// ```
     /// use belaykeel::Refusal;
     /// assert_eq!(Refusal::from_number(14), Some(Refusal::WipedOut));
+    /// assert_eq!(Refusal::from_number(20), Some(Refusal::Retired));
     /// assert_eq!(Refusal::from_number(0), None);
     /// ```
     pub fn from_number(number: u32) -> Option<Refusal> {
         Refusal::ALL.into_iter().find(|refusal| refusal.number() == number)
     }
 
-    /// Nothing for 0, else the refusal. The library gives no number above 15.
+    /// Nothing for 0, else the refusal. The library gives no other number.
     pub(crate) fn check(number: u32) -> Result<(), Refusal> {
         if number == 0 {
             return Ok(());

@@ -15,13 +15,14 @@ impl Sheet {
         Sheet { bytes: bytes.into() }
     }
 
-    /// Writes a list of numbers as a sheet.
+    /// Writes a list of numbers as a sheet. A list with a rule of kind 2 is refused; a sheet with one is read, and used in calls.
     ///
     /// ```
     /// use belaykeel::{Refusal, Sheet};
     /// let sheet = Sheet::write(&[1, 1, 300, 24, 0]).unwrap();
     /// assert_eq!(sheet.as_bytes(), [0x01, 0x01, 0xAC, 0x02, 0x18, 0x00]);
     /// assert_eq!(Sheet::write(&[25]), Err(Refusal::OutOfRange));
+    /// assert_eq!(Sheet::write(&[2, 1, 300, 1, 200, 24, 1, 0, 1, 2, 100]), Err(Refusal::Retired));
     /// ```
     pub fn write(numbers: &[u32]) -> Result<Sheet, Refusal> {
         let mut bytes = vec![0; SHEET_BYTES];

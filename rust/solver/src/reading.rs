@@ -1,9 +1,9 @@
-//! A sheet from its bytes or its list of numbers, and back, with refusals 1 to 6.
+//! A sheet from its bytes or its list of numbers, and back, with refusals 1 to 6, and 20 for a list.
 
 use crate::sheet::{Rule, Sheet};
 use crate::LARGEST_SETTING;
 
-/// Where a sheet's numbers come from.
+/// Where a sheet's numbers come from: bytes to read, or a list to write, which has no rule of kind 2.
 enum Source<'a> {
     Bytes(&'a [u8]),
     Numbers(&'a [u32]),
@@ -80,6 +80,9 @@ impl Reader<'_> {
             return Err(4);
         }
         let kind = self.number(0, 5)?;
+        if kind == 2 && matches!(self.source, Source::Numbers(_)) {
+            return Err(20);
+        }
         let mut numbers = vec![];
         if kind == 0 {
             for _ in 0..settings[i].len() {

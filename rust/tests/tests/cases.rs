@@ -110,6 +110,20 @@ fn equal_within_the_encoder() {
     }
 }
 
+/// Kind 2 is read, and refused by the writer where no number before it is at fault: also where the list ends after it or goes on wrongly.
+#[test]
+fn kind_2_is_read_and_not_written() {
+    let list = |setting, kind| [2, 1, setting, 1, 0, 24, 1, 0, 1, kind, 5];
+    assert_eq!(Sheet::from_bytes(groups(&list(0, 2))).read(), Ok(list(0, 2).to_vec()));
+    assert_eq!(Sheet::write(&list(0, 2)), Err(Refusal::Retired));
+    assert_eq!(Sheet::write(&list(0, 2)[..10]), Err(Refusal::Retired));
+    assert_eq!(Sheet::write(&[&list(0, 2)[..10], &[1_000_001]].concat()), Err(Refusal::Retired));
+    assert_eq!(Sheet::write(&[&list(0, 2)[..], &[0]].concat()), Err(Refusal::Retired));
+    assert_eq!(Sheet::write(&list(0, 2)[..9]), Err(Refusal::EndsInside));
+    assert_eq!(Sheet::write(&list(1_000_001, 2)), Err(Refusal::OutOfRange));
+    assert_eq!(Sheet::write(&list(0, 6)), Err(Refusal::OutOfRange));
+}
+
 #[test]
 fn sixty_four_events() {
     let sheet = Sheet::from_bytes(SHEET_D);
@@ -130,7 +144,7 @@ fn ranges_and_groups() {
     let one_field = |setting| [1, 1, setting, 24, 0];
     assert_eq!(written(&one_field(1_000_000)), Ok(one_field(1_000_000).to_vec()));
     assert_eq!(written(&one_field(1_000_001)), Err(Refusal::OutOfRange));
-    for kind in 1..=5 {
+    for kind in [1, 3, 4, 5] {
         let one_rule = |c| [2, 1, 0, 1, 0, 24, 1, 0, 1, kind, c];
         assert_eq!(written(&one_rule(1_000_000)), Ok(one_rule(1_000_000).to_vec()));
         assert_eq!(written(&one_rule(1_000_001)), Err(Refusal::OutOfRange));

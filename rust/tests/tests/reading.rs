@@ -67,23 +67,29 @@ fn random_sheets() {
     let seed = environment("BELAYKEEL_SEED", 1);
     println!("BELAYKEEL_SEED={seed}");
     let mut random = Random(seed);
-    let (mut read, mut written) = ([0u64; 7], [0u64; 7]);
+    let (mut read, mut written) = ([0u64; 7], [0u64; 21]);
+    let (mut before_kind_2, mut after_kind_2) = (0, 0);
     for _ in 0..environment("BELAYKEEL_CALLS", 200_000) / 4 {
         let size = if random.one_in(50) { Size::Long } else { Size::Small };
-        let mut numbers = numbers(&shapes::sheet(&mut random, size));
+        let sheet = shapes::sheet(&mut random, size);
+        let mut numbers = numbers(&sheet);
         if random.one_in(2) {
             damage_numbers(&mut random, &mut numbers);
         }
         let mut bytes = reading::groups(&numbers);
-        written[same_write(&numbers, room(&mut random, bytes.len())) as usize] += 1;
+        let number = same_write(&numbers, room(&mut random, bytes.len()));
+        written[number as usize] += 1;
+        before_kind_2 += u64::from((1..=5).contains(&number) && sheet.rules.iter().any(|rule| rule.kind == 2));
+        after_kind_2 += u64::from(number == 20 && reading::sheet(&bytes).is_err());
         if random.one_in(2) {
             damage_bytes(&mut random, &mut bytes);
         }
         read[same_read(&bytes, room(&mut random, numbers.len())) as usize] += 1;
     }
-    println!("read {read:?}, written {written:?}");
+    println!("read {read:?}, written {written:?}, faults before kind 2 {before_kind_2} and after it {after_kind_2}");
     assert!(read.iter().all(|&count| count > 0), "{read:?}");
-    assert!([0, 1, 3, 4, 5, 6].iter().all(|&number| written[number] > 0), "{written:?}");
+    assert!([0, 1, 3, 4, 5, 6, 20].iter().all(|&number| written[number] > 0), "{written:?}");
+    assert!(before_kind_2 > 0 && after_kind_2 > 0);
 }
 
 #[test]

@@ -38,7 +38,7 @@ fn definitions_and_code() {
 fn header_and_readme() {
     let header = lines("include/belaykeel.h", |line| line.starts_with("BELAYKEEL_") && line.contains(" = "));
     assert_eq!(header[0], "BELAYKEEL_ACCEPTED = 0,");
-    let numbers: Vec<String> = header[1..16].iter().map(|line| line.replacen(", /*", " /*", 1)).collect();
+    let numbers: Vec<String> = header[1..=Refusal::ALL.len()].iter().map(|line| line.replacen(", /*", " /*", 1)).collect();
     let line = |refusal| format!("BELAYKEEL_{} = {} /* {} */", name(refusal, "_"), refusal.number(), sentence(refusal));
     assert_eq!(numbers, expected(line));
     let readme = lines("README.md", |line| line.starts_with("| "));

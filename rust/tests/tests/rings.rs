@@ -3,7 +3,7 @@
 use belaykeel::{Engine, Order, Refusal, Session, Sheet, WorkSpaces};
 use solver::Rule;
 use tests::shapes::ring;
-use tests::sheets::numbers;
+use tests::sheets::bytes;
 use tests::Random;
 
 /// Two settings in each field; neighbours differ, but in an even ring those of the first rule agree.
@@ -14,7 +14,7 @@ fn odd_ring(fields: usize, reach: u32) -> Sheet {
     };
     let rules = ring(fields).into_iter().enumerate().map(rule).collect();
     let sheet = solver::Sheet { settings: vec![vec![1, 2]; fields], reach, rules };
-    Sheet::write(&numbers(&sheet)).expect("a sheet")
+    Sheet::from_bytes(bytes(&sheet))
 }
 
 #[test]
@@ -47,8 +47,7 @@ fn chains_of_every_length_and_width() {
         for d in 1..=24usize {
             let rules = (1..fields).map(|j| Rule { i: j - 1, j, kind: 2, numbers: vec![1] }).collect();
             let settings = vec![(0..d as u32).collect(); fields];
-            let sheet = solver::Sheet { settings, reach: 24, rules };
-            let sheet = Sheet::write(&numbers(&sheet)).expect("a sheet");
+            let sheet = Sheet::from_bytes(bytes(&solver::Sheet { settings, reach: 24, rules }));
             for engine in Engine::ALL {
                 let answer = Session::default().open(&sheet, engine, &Order::Rising, &mut spaces).map(|offers| offers.masks().to_vec());
                 let masks = |room: usize| (0..fields).map(|f| ((1 << room) - 1) << f).collect();

@@ -1,7 +1,7 @@
 //! The sample page of three passes: its bytes are those of its list of numbers, and its offers are those of the definitions.
 
-use belaykeel::{Engine, Order, Session, Sheet, WorkSpaces};
-use solver::reading::sheet;
+use belaykeel::{Engine, Order, Refusal, Session, Sheet, WorkSpaces};
+use solver::reading::{groups, sheet};
 use solver::{Network, Set};
 use std::fmt::Write;
 use std::fs;
@@ -20,6 +20,20 @@ fn bytes_of_the_list() {
     let list = numbers(&text("txt"));
     assert_eq!(Sheet::write(&list).expect("a sheet").as_bytes(), sample("bin"));
     assert_eq!(Sheet::from_bytes(sample("bin")).read(), Ok(list));
+}
+
+/// The masks of the roll pairs of passes 1 and 3 are those that kind 2 with c 1 allows: the page with that rule has the same offers.
+#[test]
+fn the_same_page_with_kind_2() {
+    let list = numbers(&text("txt"));
+    let place = list.windows(5).position(|part| part == [5, 7, 0, 14, 12]).expect("the masks");
+    let list = [&list[..place], &[5, 7, 2, 1], &list[place + 5..]].concat();
+    assert_eq!(Sheet::write(&list), Err(Refusal::Retired));
+    let sheets = [Sheet::from_bytes(sample("bin")), Sheet::from_bytes(groups(&list))];
+    for engine in Engine::ALL {
+        let opened = |sheet| Session::default().open(sheet, engine, &Order::Rising, &mut WorkSpaces::new()).expect("the offers");
+        assert_eq!(opened(&sheets[0]), opened(&sheets[1]));
+    }
 }
 
 /// Closing the page takes settings from five fields, and the tests of single settings take more from four.

@@ -6,6 +6,7 @@ use benchmarks::plain::reading;
 use benchmarks::report::{heading, row, Effort};
 use benchmarks::sheets::{HARDEST, PAGES};
 use solver::reading::groups;
+use solver::Sheet;
 use std::hint::black_box;
 use std::time::Instant;
 use tests::sheets::{largest, numbers};
@@ -66,21 +67,34 @@ fn print_row<const N: usize>(label: String, lists: &[Vec<u32>], measure: fn(&[u3
     row(&cells);
 }
 
-fn main() {
-    let effort = Effort::new(3, 100);
+/// The sheet with kind 1 in the place of kind 2, which is not written; the list is as long.
+fn without_kind_2(mut sheet: Sheet) -> Sheet {
+    for rule in sheet.rules.iter_mut().filter(|rule| rule.kind == 2) {
+        rule.kind = 1;
+    }
+    sheet
+}
+
+/// The lists of numbers of the sheets that are measured, made from the sheets by this.
+fn lists(effort: Effort, made: fn(Sheet) -> Sheet) -> Vec<(String, Vec<Vec<u32>>)> {
     let mut all = vec![("largest".to_string(), vec![largest()])];
     for series in PAGES.iter().chain(&HARDEST) {
         let seeds = series.first_seed..series.first_seed + effort.sheets as u64;
-        all.push((series.source.label(), seeds.map(|seed| numbers(&series.source.sheet(seed))).collect()));
+        all.push((series.source.label(), seeds.map(|seed| numbers(&made(series.source.sheet(seed)))).collect()));
     }
+    all
+}
+
+fn main() {
+    let effort = Effort::new(3, 100);
     let first = ["sheets", "bytes"];
     let plain = ["plain, µs", "ratio", "plain in one pass, µs", "ratio", "decoding alone, µs", "ratio"];
     heading(&[&first[..], &["proved `read`, µs"], &plain].concat());
-    for (label, lists) in &all {
-        print_row(label.clone(), lists, read, effort);
+    for (label, lists) in lists(effort, |sheet| sheet) {
+        print_row(label, &lists, read, effort);
     }
     heading(&[&first[..], &["proved `write`, µs"], &plain[..2]].concat());
-    for (label, lists) in &all {
-        print_row(label.clone(), lists, write, effort);
+    for (label, lists) in lists(effort, without_kind_2) {
+        print_row(label, &lists, write, effort);
     }
 }

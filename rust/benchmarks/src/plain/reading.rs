@@ -97,10 +97,11 @@ impl Source for List<'_> {
     }
 }
 
-/// The grammar of a sheet. Each number that is in its range is handed on.
+/// The grammar of a sheet. Each number that is in its range is handed on. A sheet that is to be written has no rule of kind 2.
 struct Grammar<S, E> {
     source: S,
     each: E,
+    writes: bool,
 }
 
 impl<S: Source, E: FnMut(u32)> Grammar<S, E> {
@@ -138,7 +139,11 @@ impl<S: Source, E: FnMut(u32)> Grammar<S, E> {
         if i >= j || pair < least {
             return Err(4);
         }
-        if self.take(0, 5)? > 0 {
+        let kind = self.take(0, 5)?;
+        if kind == 2 && self.writes {
+            return Err(20);
+        }
+        if kind > 0 {
             self.take(0, LARGEST_SETTING)?;
         } else {
             let most = outline.full[j as usize];
@@ -171,7 +176,7 @@ impl<S: Source, E: FnMut(u32)> Grammar<S, E> {
 /// Checks a whole sheet and hands each of its numbers on.
 #[inline(always)]
 fn check(source: impl Source, each: impl FnMut(u32)) -> Result<Outline, u32> {
-    Grammar { source, each }.sheet()
+    Grammar { source, each, writes: false }.sheet()
 }
 
 /// The outline of a list of numbers, where it is a sheet.
@@ -219,7 +224,8 @@ pub fn decode(sheet: &[u8], output: &mut [u32]) -> Result<(), u32> {
 /// Writes a list of numbers as a sheet's bytes: all are checked before a byte is written.
 pub fn write(numbers: &[u32], output: &mut [u8]) -> Answer {
     let mut length = 0;
-    if let Err(number) = check(List(numbers), |number| length += groups(number)) {
+    let mut grammar = Grammar { source: List(numbers), each: |number| length += groups(number), writes: true };
+    if let Err(number) = grammar.sheet() {
         return refused(number);
     }
     if output.len() < length {

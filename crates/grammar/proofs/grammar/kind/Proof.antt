@@ -1,4 +1,5 @@
 use mathlib.Core.Path.{sym}
+use native.Mathlib.Omega.{arith}
 use borrow.Author.Needs.{needs}
 use borrow.Author.Tests.{le-leb, lt-leb}
 use Rattle.masks.specs.Pick.{pick, pick-false}
@@ -10,10 +11,10 @@ returns : tie.Need-returns
 unfolding pick
 returns c =
     let a = c .before .before .before .args in
-    rw (c .after-kind .ensures, c .before .key .ensures .0, le-leb (a .x) lastKind (c .before .before .if1 .taken))
+    rw (c .after-kind .ensures, c .before .key .ensures .0, le-leb (a .x) lastKind (omega (arith, c .before .before .if1 .taken)))
 
 returns-2 : tie.Need-returns-2
-returns-2 c = sym (pick-false _ _ _ (lt-leb (c .before .args .x) lastKind (c .if1 .left)))
+returns-2 c = sym (pick-false _ _ _ (lt-leb (c .before .args .x) lastKind (omega (arith, c .if1 .left))))
 
 pub kind-spec : {M : Type 1} → statement M
 kind-spec = tie.close (tie.spec (λ c κs. search needs) (λ c. search needs) (λ c κs. search needs) returns returns-2)

@@ -1,7 +1,7 @@
 use native.Mathlib.Omega.{arith}
 use borrow.Author.Needs.{needs}
 use denote.Ref.{now}
-use Rattle.sheet.specs.Sources.{ofNumbers, bytesOf}
+use Rattle.sheet.specs.Sources.{writerRefusal, bytesOf}
 use Rattle.sheet.specs.Progress.{gives-refused, gives-short, gives-room, gives-values}
 use Rattle.sheet.proofs.writing.write.Statement.{statement}
 use Rattle.sheet.proofs.writing.write.Tie as tie
@@ -11,14 +11,14 @@ returns c =
     let checked = c .before .before in
     let a = checked .before .before .before .args in
     let xs = now (a .numbers) in
-    gives-refused (ofNumbers xs) (bytesOf xs) (now (a .output)) _ (checked .check .ensures) (c .if1 .taken)
+    gives-refused (writerRefusal xs) (bytesOf xs) (now (a .output)) _ (checked .check .ensures) (c .if1 .taken)
 
 returns-2 : tie.Need-returns-2
 returns-2 c =
     let checked = c .before .before .before .before .before in
     let a = checked .before .before .before .args in
     let xs = now (a .numbers) in
-    gives-short (ofNumbers xs) (bytesOf xs) (now (a .output)) _ (checked .check .ensures) _
+    gives-short (writerRefusal xs) (bytesOf xs) (now (a .output)) _ (checked .check .ensures) _
     (omega arith) (omega arith) (c .answered .ensures)
 
 put-bytes-requires : tie.Need-put-bytes-requires
@@ -26,7 +26,7 @@ put-bytes-requires c κs =
     let checked = c .before .before .before .before .before in
     let a = checked .before .before .before .args in
     let xs = now (a .numbers) in
-    gives-room (ofNumbers xs) (bytesOf xs) (now (a .output)) _ (checked .check .ensures) (omega arith) (omega arith)
+    gives-room (writerRefusal xs) (bytesOf xs) (now (a .output)) _ (checked .check .ensures) (omega arith) (omega arith)
 
 returns-3 : tie.Need-returns-3
 returns-3 c =
@@ -34,7 +34,7 @@ returns-3 c =
     let checked = put .before .before .before .before .before .before in
     let a = checked .before .before .before .args in
     let xs = now (a .numbers) in
-    gives-values (ofNumbers xs) (bytesOf xs) (now (a .output)) _ (checked .check .ensures) _
+    gives-values (writerRefusal xs) (bytesOf xs) (now (a .output)) _ (checked .check .ensures) _
     (omega arith) (omega arith) (put .put-bytes .ensures)
 
 pub write-spec : {M : Type 1} → statement M
