@@ -1,11 +1,11 @@
 -- What the writer refuses beside what the grammar refuses: a list whose first fault is the retired kind. Assumes nothing.
 use mathlib.Core.Path.{_≡_, refl, sym, ap, _∙_}
-use mathlib.Core.Bool.{Bool, true, false, _||_}
+use mathlib.Core.Bool.{Bool, true, false, _||_, false≢true}
 use mathlib.Core.List.{List, [], _∷_, _++_}
 use Prim.Native.Nat.{ℕ}
 use native.Mathlib.Omega.{arith}
 use borrow.Author.Tests.{eqb-true}
-use Rattle.masks.specs.Pick.{pick, pick-true, pick-false}
+use Rattle.masks.specs.Pick.{pick-true, pick-false}
 use Rattle.limits.specs.Limits.{retiredKind}
 use Rattle.limits.specs.Refusals.{RETIRED}
 use Rattle.grammar.specs.Grammar.{advance, start, noCounts}
@@ -13,7 +13,7 @@ use Rattle.grammar.specs.declared.grammar.Expected.{Expected}
 use Rattle.grammar.specs.declared.grammar.Expected.the-variants.{Fields, Count, Setting, Reach, Rules, First, Second, Kind, Mask, Amount}
 use Rattle.grammar.specs.declared.grammar.State.{State}
 use Rattle.grammar.specs.declared.grammar.State.the-variants.{Wants, Complete, OutOfRange, OutOfOrder}
-use Rattle.sheet.specs.Sources.{refusal, ofNumbers, isRetired, retiredFrom, retired, writerRefusal, Accepted, Writable}
+use Rattle.sheet.specs.Sources.{meets, refusal, ofNumbers, isRetired, retiredFrom, retired, writerRefusal, Accepted, Writable}
 use Rattle.accepted.specs.Refused.{refusal-few}
 
 -- ---- the first fault
@@ -56,15 +56,15 @@ here n (Kind rules i j) ds x xs h = record {
   expected = refl;
   none-before = refl;
 }
-here n Fields ds x xs h = let y : _≡_ {A = ℕ} 0 1 = cc in absurd (omega arith)
-here n (Count f) ds x xs h = let y : _≡_ {A = ℕ} 0 1 = cc in absurd (omega arith)
-here n (Setting f more floor) ds x xs h = let y : _≡_ {A = ℕ} 0 1 = cc in absurd (omega arith)
-here n Reach ds x xs h = let y : _≡_ {A = ℕ} 0 1 = cc in absurd (omega arith)
-here n Rules ds x xs h = let y : _≡_ {A = ℕ} 0 1 = cc in absurd (omega arith)
-here n (First rules floor) ds x xs h = let y : _≡_ {A = ℕ} 0 1 = cc in absurd (omega arith)
-here n (Second rules floor i) ds x xs h = let y : _≡_ {A = ℕ} 0 1 = cc in absurd (omega arith)
-here n (Mask rules floor j more) ds x xs h = let y : _≡_ {A = ℕ} 0 1 = cc in absurd (omega arith)
-here n (Amount rules floor) ds x xs h = let y : _≡_ {A = ℕ} 0 1 = cc in absurd (omega arith)
+here n Fields ds x xs h = absurd (false≢true h)
+here n (Count f) ds x xs h = absurd (false≢true h)
+here n (Setting f more floor) ds x xs h = absurd (false≢true h)
+here n Reach ds x xs h = absurd (false≢true h)
+here n Rules ds x xs h = absurd (false≢true h)
+here n (First rules floor) ds x xs h = absurd (false≢true h)
+here n (Second rules floor i) ds x xs h = absurd (false≢true h)
+here n (Mask rules floor j more) ds x xs h = absurd (false≢true h)
+here n (Amount rules floor) ds x xs h = absurd (false≢true h)
 
 later : (n : ℕ) (e : Expected) (ds : List ℕ) (x : ℕ) (xs : List ℕ) → isRetired e x ≡ false
     → FirstRetired (advance n e ds x .0) (advance n e ds x .1) xs → FirstRetired (Wants n e) ds (x ∷ xs)
@@ -84,7 +84,7 @@ later n e ds x xs h t = record {
 -- the retired kind is met: it is the first fault
 met-first : (st : State) (ds xs : List ℕ) → retiredFrom st ds xs ≡ true → FirstRetired st ds xs
 unfolding retiredFrom
-met-first st ds [] h = let y : _≡_ {A = ℕ} 0 1 = cc in absurd (omega arith)
+met-first st ds [] h = absurd (false≢true h)
 met-first (Wants n e) ds (x ∷ xs) h = go (isRetired e x) refl h (λ t. met-first (advance n e ds x .0) (advance n e ds x .1) xs t)
   where
     go : (b : Bool) → isRetired e x ≡ b → (b || retiredFrom (advance n e ds x .0) (advance n e ds x .1) xs) ≡ true
@@ -92,13 +92,17 @@ met-first (Wants n e) ds (x ∷ xs) h = go (isRetired e x) refl h (λ t. met-fir
         → FirstRetired (Wants n e) ds (x ∷ xs)
     go true q r ih = here n e ds x xs q
     go false q r ih = later n e ds x xs q (ih r)
-met-first Complete ds (x ∷ xs) h = let y : _≡_ {A = ℕ} 0 1 = cc in absurd (omega arith)
-met-first OutOfRange ds (x ∷ xs) h = let y : _≡_ {A = ℕ} 0 1 = cc in absurd (omega arith)
-met-first OutOfOrder ds (x ∷ xs) h = let y : _≡_ {A = ℕ} 0 1 = cc in absurd (omega arith)
+met-first Complete ds (x ∷ xs) h = absurd (false≢true h)
+met-first OutOfRange ds (x ∷ xs) h = absurd (false≢true h)
+met-first OutOfOrder ds (x ∷ xs) h = absurd (false≢true h)
 
 or-true : (b : Bool) → (b || true) ≡ true
 or-true true = refl
 or-true false = refl
+
+-- the refusal of one more number, 0 where it is expected
+abbrev surplus : State → ℕ
+surplus st = meets st (λ n e. 0)
 
 -- where a kind is expected after some numbers, and it is the retired one, that one is met
 first-met : (st : State) (ds front back : List ℕ) (n rules i j : ℕ) → leads st ds front .0 ≡ Wants n (Kind rules i j)
@@ -108,9 +112,9 @@ first-met st ds [] back n rules i j h = rw h
 first-met (Wants m e) ds (x ∷ front) back n rules i j h =
     let ih = first-met (advance m e ds x .0) (advance m e ds x .1) front back n rules i j h in
     ap (λ (b : Bool). isRetired e x || b) ih ∙ or-true (isRetired e x)
-first-met Complete ds (x ∷ front) back n rules i j h = let y : _≡_ {A = ℕ} 0 1 = cc in absurd (omega arith)
-first-met OutOfRange ds (x ∷ front) back n rules i j h = let y : _≡_ {A = ℕ} 0 1 = cc in absurd (omega arith)
-first-met OutOfOrder ds (x ∷ front) back n rules i j h = let y : _≡_ {A = ℕ} 0 1 = cc in absurd (omega arith)
+first-met Complete ds (x ∷ front) back n rules i j h = absurd (omega (arith, ap surplus h))
+first-met OutOfRange ds (x ∷ front) back n rules i j h = absurd (omega (arith, ap surplus h))
+first-met OutOfOrder ds (x ∷ front) back n rules i j h = absurd (omega (arith, ap surplus h))
 
 -- ---- what the writer refuses by 20, and what it writes
 

@@ -11,7 +11,7 @@ use Rattle.masks.specs.Pick.{pick, pick-true, pick-false}
 use Rattle.limits.specs.Limits.{mostBytes, mostNumbers}
 use Rattle.limits.specs.Refusals.{RETIRED}
 use Rattle.sheet.specs.Sources.{refusal, numbers, ofBytes, ofNumbers, bytesOf, Accepted, AcceptedBytes, produced, refusing, giving, reading}
-use Rattle.sheet.specs.Sources.{retired, writerRefusal, Writable, writing}
+use Rattle.sheet.specs.Sources.{retired, Writable, writing}
 use Rattle.accepted.specs.Round.{numbers-bytes, bytes-numbers}
 use Rattle.accepted.specs.Accept.{accepted-numbers, bytes-accepted}
 use Rattle.accepted.specs.Sheets.{retiredRules, IsSheet}
@@ -64,12 +64,15 @@ given : (number : ℕ) (values before : List ℕ) → number ≡ 0 → length va
     → produced number values before ≡ giving values before
 given number values before z h = pick-true _ _ _ (eq-eqb number 0 z) ∙ pick-true _ _ _ (le-leb (length values) (length before) h)
 
--- Written, then read: the same numbers, for every list that is written; whatever room is lent, and with room for them.
-pub written-read-in : (xs before : List ℕ) → Writable xs → reading (bytesOf xs) before ≡ produced 0 xs before
-written-read-in xs before w =
-    let e = writable-accepted xs w in
+-- So the other way round: the bytes of an accepted list are read to it, whatever its kinds.
+pub encoded-read : (xs before : List ℕ) → Accepted xs → reading (bytesOf xs) before ≡ produced 0 xs before
+encoded-read xs before e =
     ap₂ (λ (number : ℕ) (values : List ℕ). produced number values before) (ap refusal (same-numbers xs e) ∙ e)
     (ap numbers (same-numbers xs e) ∙ numbers-of xs)
+
+-- Written, then read: the same numbers, for every list that is written; whatever room is lent, and with room for them.
+pub written-read-in : (xs before : List ℕ) → Writable xs → reading (bytesOf xs) before ≡ produced 0 xs before
+written-read-in xs before w = encoded-read xs before (writable-accepted xs w)
 
 pub written-read : (xs before : List ℕ) → Writable xs → length xs ≤ length before → reading (bytesOf xs) before ≡ giving xs before
 written-read xs before w h = written-read-in xs before w ∙ given 0 xs before refl h

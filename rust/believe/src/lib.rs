@@ -34,7 +34,7 @@ const STATEMENTS: &[(&str, &str)] = &[
     ("ledger/specs/Laws.antt", "alike-offers"),
     ("ledger/specs/Theorems.antt", "back-undoes withdrawn-leaves set-up-kept set-up-shown"),
     ("accepted/specs/Theorems.antt", "accepted-right right-is-accepted right-retired writable-right right-is-writable"),
-    ("accepted/specs/Theorems.antt", "exact read-written read-refused written-read"),
+    ("accepted/specs/Theorems.antt", "exact encoded-read read-written read-refused written-read"),
     ("accepted/specs/FirstFault.antt", "refused-retired retired-refused"),
     ("accepted/specs/Theorems.antt", "most-bytes most-numbers most-sheet-bytes most-sheet-numbers enough-room"),
     ("consistency/specs/Closing.antt", "closing-is"),
