@@ -50,7 +50,7 @@ refusals refused x =
     refused (withSetting x) ∷ refused (withAmount 1 x) ∷ refused (withAmount 2 x)
     ∷ refused (withAmount 3 x) ∷ refused (withAmount 4 x) ∷ refused (withAmount 5 x) ∷ []
 
--- bytes that are read
+-- the refusal of bytes
 abbrev unread : List ℕ → ℕ
 unread s = refusal (ofBytes s)
 

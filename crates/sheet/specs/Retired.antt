@@ -6,6 +6,7 @@ use Prim.Native.Nat.{ℕ, _+_, _<_, _≤_}
 use native.Mathlib.Omega.{arith}
 use lib.ListN.{length, drop, getD, drop-of-length-le}
 use Rattle.masks.specs.Pick.{pick, pick-true, pick-false}
+use Rattle.masks.specs.Tests.{or-l}
 use Rattle.limits.specs.Refusals.{RETIRED}
 use Rattle.groups.specs.Groups.{encode}
 use Rattle.grammar.specs.Grammar.{advance, atEnd}
@@ -21,15 +22,15 @@ use Rattle.sheet.specs.declared.answer.Answer.{Answer}
 -- the retired kind, and another number
 retired-met : (n : ℕ) (e : Expected) (ds : List ℕ) (x : ℕ) (xs : List ℕ) → isRetired e x ≡ true → retiredFrom (Wants n e) ds (x ∷ xs) ≡ true
 unfolding retiredFrom
-retired-met n e ds x xs h = ap (λ (b : Bool). b || retiredFrom (advance n e ds x .0) (advance n e ds x .1) xs) h
+retired-met n e ds x xs h = or-l (isRetired e x) _ h
 
-retired-on : (n : ℕ) (e : Expected) (ds : List ℕ) (x : ℕ) (xs : List ℕ) → isRetired e x ≡ false
+pub retired-on : (n : ℕ) (e : Expected) (ds : List ℕ) (x : ℕ) (xs : List ℕ) → isRetired e x ≡ false
     → retiredFrom (Wants n e) ds (x ∷ xs) ≡ retiredFrom (advance n e ds x .0) (advance n e ds x .1) xs
 unfolding retiredFrom
 retired-on n e ds x xs h = ap (λ (b : Bool). b || retiredFrom (advance n e ds x .0) (advance n e ds x .1) xs) h
 
 -- no number
-pub retired-none : (st : State) (ds : List ℕ) → retiredFrom st ds [] ≡ false
+retired-none : (st : State) (ds : List ℕ) → retiredFrom st ds [] ≡ false
 unfolding retiredFrom
 retired-none st ds = refl
 

@@ -5,7 +5,7 @@ use std::fmt;
 /// Defines the refusals from a table of numbers, names and sentences.
 macro_rules! refusals {
     ($($number:literal $name:ident $sentence:literal)*) => {
-        /// The cause of a refusal, by the scope paper's number. A refused call leaves session, offers and output as they were, and one
+        /// The cause of a refusal, by its number in README.md. A refused call leaves session, offers and output as they were, and one
         /// refused by 6 the work spaces too.
         #[derive(Clone, Copy, Debug, PartialEq, Eq, Hash)]
         #[repr(u32)]
@@ -68,7 +68,7 @@ impl Refusal {
         if number == 0 {
             return Ok(());
         }
-        Err(Refusal::from_number(number).expect("a number of the scope paper"))
+        Err(Refusal::from_number(number).expect("a number of the table"))
     }
 }
 
