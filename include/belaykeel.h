@@ -25,7 +25,7 @@ extern "C" {
 #define BELAYKEEL_ROWS_WORDS 13248 /* the least words of the first work space */
 #define BELAYKEEL_MEMORY_WORDS 13824 /* the least words of the second work space */
 
-/* The numbers, in words. They are tried in the order 6; 1 to 5; 15, 7, 8, 9, 10, 11, 13, 12, 14; open skips 15. Writing alone has 20. */
+/* The numbers, in words. They are tried in the order 6; 1 to 5; 15, 7, 9, 10, 11, 13, 12, 14; open skips 15. Writing alone has 20. */
 enum {
     BELAYKEEL_ACCEPTED = 0,
     BELAYKEEL_ENDS_INSIDE = 1, /* bytes or numbers end inside the sheet */
@@ -35,7 +35,7 @@ enum {
     BELAYKEEL_SURPLUS = 5, /* bytes or numbers follow the last rule */
     BELAYKEEL_TOO_SHORT = 6, /* the offers list, a work space or the output is too short */
     BELAYKEEL_UNKNOWN = 7, /* the engine is not 1 to 3, or the field or position is not on the sheet */
-    BELAYKEEL_TOO_NARROW = 8, /* engine 2 with a reach below 24 */
+    BELAYKEEL_TOO_NARROW = 8, /* never given: engine 2 runs at every reach */
     BELAYKEEL_NO_ORDER = 9, /* the order does not hold every field just one time */
     BELAYKEEL_ADDED_AGAIN = 10, /* the decision to add is in force */
     BELAYKEEL_NOT_IN_FORCE = 11, /* the decision to withdraw is not in force */
@@ -46,10 +46,10 @@ enum {
     BELAYKEEL_RETIRED = 20 /* the writer met a rule of kind 2, which is read but no longer written */
 };
 
-/* The engines. None alters the offers; 1 and 3 serve every sheet. */
+/* The engines. None alters the offers, and each serves every sheet. */
 enum {
     BELAYKEEL_SAC_1 = 1,
-    BELAYKEEL_SAC_2 = 2, /* at reach 24 only */
+    BELAYKEEL_SAC_2 = 2,
     BELAYKEEL_QUEUE = 3
 };
 

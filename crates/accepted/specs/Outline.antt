@@ -1,4 +1,4 @@
--- The outline of a sheet: how many fields it has, its reach, and the set of all its settings. Assumes nothing.
+-- The outline of a sheet: how many fields it has, and the set of all its settings. Assumes nothing.
 use mathlib.Core.Path.{_≡_, sym, ap, _∙_}
 use mathlib.Core.Logic.{⊎-elim}
 use mathlib.Core.Bool.{true, false, _&&_, and-true}
@@ -18,7 +18,7 @@ use Rattle.masks.specs.Sets.{has, pad, getD-pad}
 use Rattle.sheet.specs.Sources.{Accepted}
 use Rattle.accepted.specs.declared.outline.Outline.{Outline}
 use Rattle.accepted.specs.Lists.{tabulate, getD-tabulate, tabulate-past, Filling, filling-first, filling-next, filling-last}
-use Rattle.accepted.specs.Parts.{fieldsOf, countOf, reachOf}
+use Rattle.accepted.specs.Parts.{fieldsOf, countOf}
 use Rattle.accepted.specs.Facts.{facts}
 
 -- the mask of every position of field f
@@ -28,7 +28,7 @@ settingsOf xs f = maskOf (countOf xs f) (λ v. true)
 -- The outline of the sheet with the numbers xs: for each field the mask of its positions, 0 past its fields.
 unfoldable pub outlineOf : List ℕ → Outline
 outlineOf xs =
-    record { fields = fieldsOf xs; reach = reachOf xs; full = pad (mostFields - fieldsOf xs) (tabulate (fieldsOf xs) (settingsOf xs)) }
+    record { fields = fieldsOf xs; full = pad (mostFields - fieldsOf xs) (tabulate (fieldsOf xs) (settingsOf xs)) }
 
 -- every position, as code spells it
 pub positions-code : (d : ℕ) → d ≤ mostSettings → (1 ≤ 1 * 2 ^ d % 2 ^ 32) × (1 * 2 ^ d % 2 ^ 32 - 1 ≡ maskOf d (λ v. true))
@@ -88,14 +88,13 @@ module _ (xs : List ℕ) (n f : ℕ) (full : List ℕ) where
           (r ∙ ap (λ (k : ℕ). maskOf k (λ v. true)) q) (p .filling);
     }
 
-  pub outlining-last : (reach : ℕ) → Outlining xs n f full → n ≤ f → reach ≡ reachOf xs
-      → record { fields = n; reach = reach; full = full } ≡ outlineOf xs
+  pub outlining-last : Outlining xs n f full → n ≤ f → record { fields = n; full = full } ≡ outlineOf xs
   unfolding outlineOf
-  outlining-last reach p l r =
+  outlining-last p l =
       let e = p .fields in
       let few = facts xs (p .accepted) .fields-few in
       let b = p .below in
       let k : f ≡ fieldsOf xs = omega arith in
       let m : full ≡ pad (mostFields - fieldsOf xs) (tabulate (fieldsOf xs) (settingsOf xs)) =
       rw k at (filling-last mostFields (settingsOf xs) f full (omega arith) (p .filling)) in
-      rw (e, r, m)
+      rw (e, m)

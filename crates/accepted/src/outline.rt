@@ -1,4 +1,4 @@
-// The outline of a sheet: all that is read of it beside its rules and its micrometres.
+// The outline of a sheet: all that is read of it beside its reach, its rules and its micrometres.
 ghost use mathlib.Core.Path.{_≡_};
 ghost use Prim.Native.Nat.{_≤_};
 ghost use Rattle.limits.specs.Limits.{mostSettings};
@@ -9,10 +9,9 @@ ghost use Rattle.accepted.specs.Outline.{outlineOf};
 use super::parts;
 use limits::FIELDS;
 
-// How many fields, the reach, and for each field the mask of all its positions, 0 past the sheet's fields.
+// How many fields, and for each field the mask of all its positions, 0 past the sheet's fields.
 pub struct Outline {
     pub fields: usize,
-    pub reach: u32,
     pub full: [u32; FIELDS],
 }
 
@@ -30,16 +29,11 @@ pub fn outline_of(numbers: &[u32]) -> Outline
     ensures { λ r. ⌜ r ≡ outlineOf (now (numbers .entry)) ⌝ }
 {
     let fields = parts::fields(numbers);
-    let reach = parts::reach(numbers);
     let mut full = [0u32; FIELDS];
     let mut f: usize = 0;
     while f < fields {
         full[f] = positions(parts::count(numbers, f));
         f += 1;
     }
-    Outline {
-        fields,
-        reach,
-        full,
-    }
+    Outline { fields, full }
 }

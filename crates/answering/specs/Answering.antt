@@ -18,7 +18,7 @@ use Rattle.ledger.specs.declared.Call.{Call}
 use Rattle.ledger.specs.Ledger.{Given, Cause, step, wiped, spaceShort, number, first, judged, isOrder}
 use Rattle.ledger.specs.Causes.{first-end, first-applies, first-next}
 use Rattle.ledger.specs.Laws.{SameLedger, alike-wiped, alike-offers}
-use Rattle.ledger.specs.Judging.{or-left, or-right, not-back, clear, number-short, number-sheet, number-judged, number-offers}
+use Rattle.ledger.specs.Judging.{or-left, or-right, clear, clear-order, number-short, number-sheet, number-judged, number-offers}
 use Rattle.session.specs.declared.Session.{Session}
 use Rattle.session.specs.View.{view, Sized}
 use Rattle.session.specs.Steps.{stepped, StepAsks}
@@ -97,7 +97,7 @@ module _ (c : Call) (s : Session) (d : Sized s) (sheet : List ℕ) (engine : ℕ
     answers-sheet k left o n q = answers-by k s left (rw o (result-refused k n (number-sheet g c (view s) long k n q)))
 
     module _ (z : refusal (ofBytes sheet) ≡ 0) where
-      -- by 15 and 7 to 13
+      -- by 15, 7 and 9 to 13
       pub answers-judged : (k : ℕ) (left : Spaces) → left .offers ≡ lent .offers → (k ≡ 0 → ⊥) → k ≡ first found
           → Answers c s sheet engine order lent k s left
       answers-judged k left o n q = answers-by k s left (rw o (result-refused k n (number-judged g c (view s) long z k n q)))
@@ -108,7 +108,7 @@ module _ (c : Call) (s : Session) (d : Sized s) (sheet : List ℕ) (engine : ℕ
         takes-step = step-asks ys (bytes-accepted sheet z) engine order s c (clear (outlineOf ys) c engine order (view s) v)
 
         pub is-order : isOrder (outlineOf ys .fields) order ≡ true
-        is-order = not-back _ (clear (outlineOf ys) c engine order (view s) v .of-order .1 .0)
+        is-order = clear-order (outlineOf ys) c engine order (view s) (clear (outlineOf ys) c engine order (view s) v)
 
         module _ (t : Session) (q : t ≡ stepped c s) (w : Bool) (left : Spaces)
             (p : Settled ys (view t) (lent .offers) w (left .offers)) where

@@ -25,7 +25,6 @@ pub fn take_in(sheet: &[u8], memory: &mut [u32]) -> Intake
     if answer.number != 0 {
         let none = Outline {
             fields: 0,
-            reach: 0,
             full: [0u32; FIELDS],
         };
         return Intake {

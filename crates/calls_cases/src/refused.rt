@@ -99,7 +99,7 @@ fn near(name: &[u8], engine: u32, order: &[u8]) {
 }
 
 fn reaches() {
-    line::heading(b"-- 8 at reach 1, before 9");
+    line::heading(b"-- every engine at reach 1");
     near(b"engine 1", 1, b"\x00\x01");
     near(b"engine 2", 2, b"\x00\x01");
     near(b"engine 2, no order", 2, b"");

@@ -9,12 +9,14 @@ use Rattle.masks.specs.Bits.{bit}
 use Rattle.masks.specs.Masks.{maskOf, keepIn, keepBits, someIn, someBit, countIn, countBits}
 use Rattle.masks.specs.Sets.{has, only, count, same, pad}
 use Rattle.masks.specs.Settings.{cut, empty, someEmpty}
+use Rattle.masks.specs.Restrict.{restrict}
 use Rattle.masks.specs.Pick.{pick}
 use Rattle.consistency.specs.Largest.{sweep, sweeps, largest}
 use Rattle.consistency.specs.Problem.{Problem, allFields}
 use Rattle.consistency.specs.Closing.{partner, supportedBy, supported, closing}
 use Rattle.consistency.specs.Neighbourhood.{widen, fieldsWithin, neighbourhood}
 use Rattle.consistency.specs.Offers.{noneEmpty, passesOver, passes, offers, wipedOut}
+use Rattle.consistency.specs.Remembered.{leftIn}
 use Rattle.groups.specs.Groups.{groups, numberAt}
 use Rattle.grammar.specs.Grammar.{advance}
 use Rattle.sheet.specs.Sources.{refusalFrom, numbers, items, ofBytes}
@@ -35,6 +37,8 @@ use Rattle.cases.specs.Calls.{given, answers, afterAll, single, edges, e
 pub data Case : Type 0 where
   -- a problem, a reach, a set; its closing over every field, its offers, and whether it is wiped out
   consistency : Problem → ℕ → List ℕ → List ℕ → List ℕ → Bool → Case
+  -- a problem, a reach, a set, a field and a position; what its test, which passes, leaves in the field's neighbourhood
+  leaves : Problem → ℕ → List ℕ → ℕ → ℕ → List ℕ → Case
   -- the bytes of a sheet, a set, and its closing over every field
   closes : List ℕ → List ℕ → List ℕ → Case
   -- the bytes of a sheet, calls one after the other, and their numbers
@@ -49,13 +53,14 @@ agree false b = not b
 
 -- It opens all that it computes with, so a theorem says `unfolding allHold` and no more.
 unfoldable pub holds : Case → Bool
-unfolding agree wipedOut offers passes passesOver noneEmpty neighbourhood fieldsWithin widen allFields closing supported supportedBy partner
+unfolding agree restrict wipedOut offers passes passesOver noneEmpty neighbourhood fieldsWithin widen allFields closing supported supportedBy partner
     largest sweeps sweep someEmpty empty cut same count only countBits countIn someBit someIn keepBits keepIn maskOf bit has pad someBelow
     allBelow answers afterAll tabulate occurrences number after first causes judged malformed noEngine isOrder spaceShort reversible
     allOnSheet onSheet inForce sameDecision without changeBy backed step otherChosen starts startSet offersOf wiped outlineOf refusalFrom
     numbers items numberAt groups pick advance fieldStart ruleStart sheetProblem runs pairs
 holds (consistency P k S closed offered wiped) =
     same (closing P (allFields P) S) closed && same (offers P k S) offered && agree (wipedOut P k S) wiped
+holds (leaves P k S f v masks) = passes P k S f v && same (leftIn P (neighbourhood P k f) S f v) masks
 holds (closes sheet S closed) =
     let P = sheetProblem (numbers (ofBytes sheet)) in
     same (closing P (allFields P) S) closed
@@ -114,6 +119,12 @@ table =
     ∷ shown (encoders (2 ∷ [])) (Open ∷ []) (0 ∷ []) (0x1F ∷ 1 ∷ 0x1F ∷ [])
     ∷ shown (encoders (100 ∷ [])) (Open ∷ []) (0 ∷ []) (0x180 ∷ 1 ∷ 0x180 ∷ [])
     ∷ shown (encoders (0xC0 ∷ 0x84 ∷ 0x3D ∷ [])) (Open ∷ []) (0 ∷ []) (0x1800 ∷ 1 ∷ 0x1800 ∷ [])
+    -- 02, request 2: what a passed test leaves in the neighbourhood. Six fields in a ring at reach 1 and 2; two fields and a third with no
+    -- rule, which is outside the neighbourhood at reach 1 and in it at reach 24
+    ∷ leaves (ring 6) 1 (3 ∷ 3 ∷ 3 ∷ 3 ∷ 3 ∷ 3 ∷ []) 0 0 (1 ∷ 2 ∷ 0 ∷ 0 ∷ 0 ∷ 2 ∷ [])
+    ∷ leaves (ring 6) 2 (3 ∷ 3 ∷ 3 ∷ 3 ∷ 3 ∷ 3 ∷ []) 0 0 (1 ∷ 2 ∷ 1 ∷ 0 ∷ 1 ∷ 2 ∷ [])
+    ∷ leaves (allDifferent 2 3) 1 (3 ∷ 3 ∷ 3 ∷ []) 0 0 (1 ∷ 2 ∷ 0 ∷ [])
+    ∷ leaves (allDifferent 2 3) 24 (3 ∷ 3 ∷ 3 ∷ []) 0 0 (1 ∷ 2 ∷ 3 ∷ [])
     ∷ []
 
 -- THE THEOREM: every case of the table holds.

@@ -14,7 +14,7 @@ use Rattle.masks.specs.Tests.{never, not-so, eq-cases}
 use Rattle.masks.specs.Bits.{bit, bit-bound, Within, within-le}
 use Rattle.masks.specs.Masks.{maskOf-lt}
 use Rattle.masks.specs.Words.{clear, clear-within, clear-same}
-use Rattle.masks.specs.Sets.{has}
+use Rattle.masks.specs.Sets.{has, ⊆-trans}
 use Rattle.masks.specs.Settings.{cut, cut-⊆, length-cut, lose, lose-⊆, lose-by, lose-set, length-lose, empty, empty-at, empty-by, empty-not}
 use Rattle.consistency.specs.Problem.{Problem, allFields, in-allFields}
 use Rattle.consistency.specs.Closing.{closing, closing-is}
@@ -22,7 +22,7 @@ use Rattle.consistency.specs.Offers.{NoneEmpty, noneEmpty, noneEmpty-at}
 use Rattle.network.specs.Tables.{problemOf, Wired}
 use Rattle.closing.specs.Shrunk.{or-within, one-within, Small, small-⊆, Shrunk, shrunk-then, shrunk-set}
 use Rattle.closing.specs.Close.{Ready, Closes}
-use Rattle.closing.specs.Frame.{Live, Removed, cut-ready, cut-full, lose-ready}
+use Rattle.closing.specs.Frame.{Live, Tested, Removed, cut-ready, cut-full, lose-ready}
 
 -- a set: a mask for each field, with a bit for each setting
 pub record Masks (S : List ℕ) : Type 0 where
@@ -78,6 +78,12 @@ module _ (n : ℕ) (joined forward turned : List ℕ) (S : List ℕ) (a : LiveAs
     ready = cut-ready P W S f v (a .live .shut);
     full = cut-full P W S f v e (a .live .full);
   }
+
+  -- what a passed test left is a set
+  pub tested-masks : {W f v : ℕ} {ok : Bool} {R : List ℕ} → Tested P W S f v ok R → ok ≡ true → Masks R
+  tested-masks {W} {f} {v} {ok} {R} d e =
+      let part = ⊆-trans R (cut S f v) S (rw (d .rest e) (closing-is P W (cut S f v) .inside)) (cut-⊆ S f v) in
+      record { long = d .sized ∙ a .masks .long; small = small-⊆ S R part (a .masks .small) }
 
   pub lose-asks : (f v : ℕ) → has S f v ≡ true → empty (lose S f v) f ≡ false
       → CloseAsks n joined forward turned (allFields P) (2 ^ f) (lose S f v)

@@ -7,17 +7,19 @@ use Prim.Native.Nat.{ℕ, _^_, _≤_, _<_}
 use lib.ListN.{length, getD}
 use borrow.Author.Tests.{eq-eqb, not-true, not-false}
 use Rattle.masks.specs.Tests.{never, not-so, bool-cases, eq-cases}
-use Rattle.masks.specs.Bits.{Within}
+use Rattle.masks.specs.Bits.{bit, Within}
 use Rattle.masks.specs.Words.{bit-one}
-use Rattle.masks.specs.Sets.{has, has-mask, _⊆_, only, only-⊆, only-at, only-by}
+use Rattle.masks.specs.Sets.{has, has-mask, _⊆_}
 use Rattle.masks.specs.Settings.{cut, cut-⊆, cut-at, cut-by, length-cut, lose, lose-⊆, lose-by, lose-at, empty, empty-at}
 use Rattle.masks.specs.Settings.{empty-not, someEmpty}
-use Rattle.consistency.specs.Problem.{Problem, In, allFields, in-allFields}
+use Rattle.masks.specs.Restrict.{restrict-⊆, restrict-at}
+use Rattle.consistency.specs.Problem.{Problem, allFields, in-allFields}
 use Rattle.consistency.specs.Closing.{Closed, closing, closing-is}
 use Rattle.consistency.specs.Neighbourhood.{neighbourhood}
 use Rattle.consistency.specs.Offers.{NoneEmpty, noneEmpty, noneEmpty-at, noneEmpty-by, noneEmpty-mono, left, passesOver}
-use Rattle.consistency.specs.Offers.{passesOver-at, passesOver-by, witness-at, witness-by, passes, offers, offers-is, offers-lose}
+use Rattle.consistency.specs.Offers.{passes, offers, offers-is, offers-lose}
 use Rattle.consistency.specs.Offers.{offers-between, wipedOut, wipedOut-by}
+use Rattle.consistency.specs.Remembered.{passes-still}
 use Rattle.consistency.specs.Order.{offers-in-closing}
 use Rattle.closing.specs.Shrunk.{Shrunk}
 use Rattle.closing.specs.Close.{Ready, Closes}
@@ -64,31 +66,17 @@ module _ (P : Problem) where
       twice false = refl
 
   -- a passed test stays passed where nothing but f changed in W
-  module _ (W : ℕ) (S R : List ℕ) (f v : ℕ) (h : R ⊆ S) (hv : has R f v ≡ true)
-      (same : (g : ℕ) → In P W g → (g ≡ f → ⊥) → getD R g 0 ≡ getD S g 0) where
-    meet : List ℕ
-    meet = only (has (cut R f v)) (left P W S f v)
-
-    meet-by : (g u : ℕ) → In P W g → has (left P W S f v) g u ≡ true → has meet g u ≡ true
-    unfolding meet
-    meet-by g u i e =
-        let c = closing-is P W (cut S f v) .inside g u e in
-        only-by (has (cut R f v)) (left P W S f v) g u e
-        (⊎-elim (λ q. let z : u ≡ v = cut-at S f v u (rw q at c) in ap₂ (has (cut R f v)) q z ∙ cut-by R f v f v hv (λ _. refl))
-        (λ q. cut-by R f v g u (has-mask R S g u (same g i q) ∙ cut-⊆ S f v g u c) (λ z. absurd (q z)))
-        (eq-cases g f))
-
+  module _ (W : ℕ) (S R : List ℕ) (f v : ℕ) (h : has R f v ≡ true)
+      (same : (g : ℕ) → bit W g ≡ true → (g ≡ f → ⊥) → getD R g 0 ≡ getD S g 0) where
     pub passes-same : passesOver P W S f v ≡ true → passesOver P W R f v ≡ true
-    unfolding meet
-    passes-same e =
-        let x = witness-at P W S f v (passesOver-at P W S f v e) in
-        passesOver-by P W R f v (witness-by P W R f v meet (record {
-          inside = λ g u b. only-at (has (cut R f v)) (left P W S f v) g u b;
-          shut = λ g u b i k j q. let s = x .shut g u (only-⊆ (has (cut R f v)) (left P W S f v) g u b) i k j q in
-              (s .0, meet-by k (s .0) j (s .1), s .2);
-          full = λ g i. let s = empty-not (left P W S f v) g (x .full g i) in
-              not-so (empty meet g) (λ z. never (meet-by g (s .0) i (s .1)) (empty-at meet g (s .0) z));
-        }))
+    passes-same e = passes-still P W S R f v e (λ g u i. kept g u (restrict-at W _ g u i) (restrict-⊆ W _ g u i))
+      where
+        -- what the test left in W is in R
+        kept : (g u : ℕ) → bit W g ≡ true → has (left P W S f v) g u ≡ true → has R g u ≡ true
+        kept g u w e =
+            let c = closing-is P W (cut S f v) .inside g u e in
+            ⊎-elim (λ q. let z : u ≡ v = cut-at S f v u (rw q at c) in ap₂ (has R) q z ∙ h)
+            (λ q. has-mask R S g u (same g w q) ∙ cut-⊆ S f v g u c) (eq-cases g f)
 
   -- ---- a setting that failed is lost, and the set closed again
 

@@ -133,8 +133,8 @@ module _ (P : Problem) (order hood : List ℕ) where
 
             other : (g : ℕ) → g < P .fields → bit r g ≡ false → (g ≡ f → ⊥) → FieldPasses P hood S g → FieldPasses P hood R g
             other g k n d o u h =
-                passes-same P (getD hood g 0) S R g u (v .shrunk e .inside) h
-                (λ i j q. v .shrunk e .same i (not-so (bit changed i) (λ c. unchanged g k n i (j .1) c (λ z. q (sym z)))))
+                passes-same P (getD hood g 0) S R g u h
+                (λ i j q. v .shrunk e .same i (not-so (bit changed i) (λ c. unchanged g k n i j c (λ z. q (sym z)))))
                 (o u (v .shrunk e .inside g u h))
 
   -- ---- the rounds; M is the set after the start, when every field is on the queue

@@ -1,5 +1,6 @@
 // Engine 3, the queue method: only the fields on a queue are visited, and a removal puts fields back.
 ghost use mathlib.Core.Path.{_≡_};
+ghost use mathlib.Core.Bool.{false};
 ghost use Prim.Native.Nat.{_≤_};
 ghost use lib.ListN.{length};
 ghost use Rattle.limits.specs.Limits.{memoryWords};
@@ -63,12 +64,13 @@ fn round<'a>(
     turned: &'a [u32],
 ) -> Waiting
     requires { ⌜ LiveAsks (net .fields) (net .joined) (now forward) (now turned) (now m)
-        × Store (problemIn net (now forward) (now turned)) (net .hood) (now known) (now memory) ⌝ }
+        × Store (problemIn net (now forward) (now turned)) (net .hood) (now m) (now known) (now memory) ⌝ }
     requires { ⌜ Lent (net .fields) (net .joined) (now forward) (now turned) (now order) (net .hood)
         × Within waiting (allFields (problemIn net (now forward) (now turned))) ⌝ }
     ensures { λ r. ⌜ Rounded (problemIn net (now (forward .entry)) (now (turned .entry))) (now (order .entry)) (net .hood)
         (now (m .entry)) waiting (r .wiped) (r .queue) (now (m .exit))
-        × Store (problemIn net (now (forward .entry)) (now (turned .entry))) (net .hood) (now (known .exit)) (now (memory .exit)) ⌝ }
+        × (r .wiped ≡ false → Store (problemIn net (now (forward .entry)) (now (turned .entry))) (net .hood) (now (m .exit))
+        (now (known .exit)) (now (memory .exit))) ⌝ }
 {
     let n = net.fields;
     let mut queue = waiting;

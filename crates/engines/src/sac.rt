@@ -1,6 +1,7 @@
 // The start that the engines share, and engines 1 and 2, SAC-1 and SAC-2: passes over all fields until one changes nothing. SAC-2
-// remembers what passed tests left, and tests a setting again only where the set lost some of it.
+// remembers what passed tests left in their neighbourhoods, and tests a setting again only where the set lost some of it.
 ghost use mathlib.Core.Path.{_≡_};
+ghost use mathlib.Core.Bool.{false};
 ghost use Prim.Native.Nat.{_≤_, _<_};
 ghost use lib.ListN.{length, getD};
 ghost use Rattle.limits.specs.Limits.{mostFields, memoryWords};
@@ -54,11 +55,12 @@ fn pass<'a>(
     turned: &'a [u32],
 ) -> Narrowed
     requires { ⌜ LiveAsks (net .fields) (net .joined) (now forward) (now turned) (now m)
-        × Store (problemIn net (now forward) (now turned)) (net .hood) (now known) (now memory) ⌝ }
+        × Store (problemIn net (now forward) (now turned)) (net .hood) (now m) (now known) (now memory) ⌝ }
     requires { ⌜ Lent (net .fields) (net .joined) (now forward) (now turned) (now order) (net .hood) ⌝ }
     ensures { λ r. ⌜ Passed (problemIn net (now (forward .entry)) (now (turned .entry))) (now (order .entry)) (net .hood)
         (now (m .entry)) (r .wiped) (r .changed) (now (m .exit))
-        × Store (problemIn net (now (forward .entry)) (now (turned .entry))) (net .hood) (now (known .exit)) (now (memory .exit)) ⌝ }
+        × (r .wiped ≡ false → Store (problemIn net (now (forward .entry)) (now (turned .entry))) (net .hood) (now (m .exit))
+        (now (known .exit)) (now (memory .exit))) ⌝ }
 {
     let n = net.fields;
     let mut touched: u32 = 0;

@@ -1,4 +1,4 @@
-// The causes 15 and 7 to 13 of a refusal, in 01's order, for an accepted sheet.
+// The causes 15, 7 and 9 to 13 of a refusal, in their order, for an accepted sheet.
 ghost use mathlib.Core.Path.{_≡_};
 ghost use Rattle.ledger.specs.Ledger.{first, sessionCauses, placeCauses, stepCauses, judged};
 ghost use Rattle.ledger.specs.declared.Call.the-variants.{Back};
@@ -78,7 +78,7 @@ pub fn judge(outline: Outline, session: Session, call: Call, engine: u32, order:
     if of_place != 0 {
         return of_place;
     }
-    let of_order = judge_order(outline, engine, order);
+    let of_order = judge_order(outline, order);
     if of_order != 0 {
         return of_order;
     }

@@ -12,13 +12,11 @@ use ledger::STRIKE;
 use ledger::WITHDRAW_CHOICE;
 use ledger::WITHDRAW_STRIKE;
 use limits::MOST_EVENTS;
-use limits::WHOLE_REACH;
 use limits::refusals::ADDED_AGAIN;
 use limits::refusals::MALFORMED;
 use limits::refusals::NO_ORDER;
 use limits::refusals::NO_ROOM;
 use limits::refusals::NOT_IN_FORCE;
-use limits::refusals::TOO_NARROW;
 use limits::refusals::UNKNOWN;
 use session::Session;
 use session::decisions::Decisions;
@@ -70,13 +68,10 @@ pub fn judge_setting(outline: Outline, e: Event) -> u32
     0
 }
 
-// 8: engine 2 with a reach below 24. 9: the order does not hold every field just one time.
-pub fn judge_order(outline: Outline, engine: u32, order: &[u8]) -> u32
-    ensures { λ r. ⌜ r ≡ first (orderCauses outline engine (now (order .entry))) ⌝ }
+// 9: the order does not hold every field just one time.
+pub fn judge_order(outline: Outline, order: &[u8]) -> u32
+    ensures { λ r. ⌜ r ≡ first (orderCauses outline (now (order .entry))) ⌝ }
 {
-    if (engine == 2) & (outline.reach < WHOLE_REACH) {
-        return TOO_NARROW;
-    }
     if !is_order(order, outline.fields) {
         return NO_ORDER;
     }

@@ -87,10 +87,11 @@ pub order-of-causes :
     × (number (givenD 0 rising) Show off ≡ 15) × (number (givenD 0 rising) Show unheld ≡ 15)
     × (number (givenD 0 rising) Back (strange 0) ≡ 15) × (number (givenD 0 rising) Back (strange 5) ≡ 15)
     × (number (givenD 0 rising) Open off ≡ 7)
-    -- 7, for the engine and for the decision, before 8 and 9, 8 before 9
+    -- 7, for the engine and for the decision, before 9; engine 2 is taken at reach 1
     × (number (narrow 0 []) Show opened ≡ 7)
     × (number (narrow 2 []) (decides CHOOSE 1 0) opened ≡ 7) × (number (narrow 2 []) (decides CHOOSE 0 1) opened ≡ 7)
-    × (number (narrow 2 []) (decides CHOOSE 0 0) opened ≡ 8) × (number (narrow 3 []) (decides CHOOSE 0 0) opened ≡ 9)
+    × (number (narrow 2 []) (decides CHOOSE 0 0) opened ≡ 9) × (number (narrow 3 []) (decides CHOOSE 0 0) opened ≡ 9)
+    × (number (narrow 2 (0 ∷ [])) (decides CHOOSE 0 0) opened ≡ 0)
     -- a kind that is none of the four
     × (number (narrow 2 []) (decides 0 0 0) opened ≡ 7) × (number (narrow 2 []) (decides 5 0 0) opened ≡ 7)
     -- 9 before 10, 11 and 13
@@ -108,6 +109,7 @@ unfolding pastOf wipedOut offers passes passesOver noneEmpty neighbourhood field
     inForce sameDecision without changeBy backed step otherChosen starts startSet offersOf wiped outlineOf refusalFrom numbers items
     numberAt groups pick advance fieldStart ruleStart sheetProblem runs pairs
 order-of-causes = (
+  refl,
   refl,
   refl,
   refl,

@@ -2,24 +2,26 @@
 use mathlib.Core.Path.{_≡_, refl, sym, ap, _∙_}
 use mathlib.Core.Bool.{Bool, true, false, not, _||_}
 use mathlib.Core.List.{List, _++_}
-use Prim.Native.Nat.{ℕ, _≤_}
+use Prim.Native.Nat.{ℕ, _≤_, _<_}
 use native.Mathlib.Omega.{arith}
 use lib.Dec.{ltb}
 use lib.ListN.{length}
 use borrow.Author.Tests.{eqb-true, eq-eqb, ne-eqb, ltb-false}
 use Rattle.limits.specs.Limits.{mostEvents}
-use Rattle.limits.specs.Refusals.{TOO-SHORT, MALFORMED}
+use Rattle.limits.specs.Refusals.{TOO-SHORT, UNKNOWN, NO-ORDER, ADDED-AGAIN, NOT-IN-FORCE, NO-ROOM, NOTHING-PAST}
+use Rattle.limits.specs.Refusals.{WIPED-OUT, MALFORMED}
 use Rattle.masks.specs.Tests.{never}
 use Rattle.sheet.specs.Sources.{refusal, numbers, ofBytes}
 use Rattle.accepted.specs.declared.outline.Outline.{Outline}
 use Rattle.accepted.specs.Outline.{outlineOf}
+use Rattle.accepted.specs.Refused.{refusal-few}
 use Rattle.ledger.specs.declared.Call.{Call}
 use Rattle.ledger.specs.declared.Call.the-variants.{Open, Show, Decide, Back, CoilOn}
 use Rattle.ledger.specs.Ledger.{Ledger, Given, Cause, first, step, spaceShort, spaceCauses, sheetCauses, allOnSheet}
-use Rattle.ledger.specs.Ledger.{reversible, malformed, sessionCauses, engineCauses, placeCauses, orderCauses, stepCauses}
+use Rattle.ledger.specs.Ledger.{reversible, malformed, isOrder, sessionCauses, engineCauses, placeCauses, orderCauses, stepCauses}
 use Rattle.ledger.specs.Ledger.{offersCauses, judged, causes, number}
 use Rattle.ledger.specs.Causes.{None, Avoids, Numbered, avoids-++, first-end, first-applies, first-next, first-none, first-here}
-use Rattle.ledger.specs.Causes.{first-there, first-both}
+use Rattle.ledger.specs.Causes.{first-there, first-both, first-avoids}
 
 pub or-left : (a b : Bool) → (a || b) ≡ false → a ≡ false
 or-left true b e = e
@@ -33,9 +35,31 @@ pub not-back : (b : Bool) → not b ≡ false → b ≡ true
 not-back true e = refl
 not-back false e = sym e
 
--- ---- the stages that read a call: none of their causes has a number k, where k is none of theirs
+-- ---- a number k that no cause of a stage has
 
-pub session-avoids : (k : ℕ) (o : Outline) (c : Call) (l : Ledger) → (malformed o l ≡ true → MALFORMED ≡ k → ⊥)
+-- k is none of 7 and 9 to 13
+record NotJudged (k : ℕ) : Type 0 where
+  pub not-7 : UNKNOWN ≡ k → ⊥
+  pub not-9 : NO-ORDER ≡ k → ⊥
+  pub not-10 : ADDED-AGAIN ≡ k → ⊥
+  pub not-11 : NOT-IN-FORCE ≡ k → ⊥
+  pub not-12 : NO-ROOM ≡ k → ⊥
+  pub not-13 : NOTHING-PAST ≡ k → ⊥
+
+not-judged : (k : ℕ) → (7 ≤ k → k ≤ 13 → k ≡ 8) → NotJudged k
+not-judged k h = record {
+  not-7 = λ z. let e = h (omega arith) (omega arith) in omega arith;
+  not-9 = λ z. let e = h (omega arith) (omega arith) in omega arith;
+  not-10 = λ z. let e = h (omega arith) (omega arith) in omega arith;
+  not-11 = λ z. let e = h (omega arith) (omega arith) in omega arith;
+  not-12 = λ z. let e = h (omega arith) (omega arith) in omega arith;
+  not-13 = λ z. let e = h (omega arith) (omega arith) in omega arith;
+}
+
+none-is-0 : NotJudged 0
+none-is-0 = not-judged 0 (λ a b. omega arith)
+
+session-avoids : (k : ℕ) (o : Outline) (c : Call) (l : Ledger) → (malformed o l ≡ true → MALFORMED ≡ k → ⊥)
     → Avoids k (sessionCauses o c l)
 session-avoids k o Open l n = tt
 session-avoids k o Show l n = (n, tt)
@@ -43,28 +67,27 @@ session-avoids k o (Decide e) l n = (n, tt)
 session-avoids k o Back l n = (n, tt)
 session-avoids k o CoilOn l n = (n, tt)
 
-pub place-avoids : (k : ℕ) (o : Outline) (c : Call) → (_≡_ {A = ℕ} 7 k → ⊥) → Avoids k (placeCauses o c)
+engine-avoids : (k engine : ℕ) → NotJudged k → Avoids k (engineCauses engine)
+engine-avoids k engine n = (λ _. n .not-7, tt)
+
+place-avoids : (k : ℕ) (o : Outline) (c : Call) → NotJudged k → Avoids k (placeCauses o c)
 place-avoids k o Open n = tt
 place-avoids k o Show n = tt
-place-avoids k o (Decide e) n = (λ _. n, tt)
+place-avoids k o (Decide e) n = (λ _. n .not-7, tt)
 place-avoids k o Back n = tt
 place-avoids k o CoilOn n = tt
 
--- 10 to 13
-pub record NotOfStep (k : ℕ) : Type 0 where
-  pub not-10 : _≡_ {A = ℕ} 10 k → ⊥
-  pub not-11 : _≡_ {A = ℕ} 11 k → ⊥
-  pub not-12 : _≡_ {A = ℕ} 12 k → ⊥
-  pub not-13 : _≡_ {A = ℕ} 13 k → ⊥
+order-avoids : (k : ℕ) (o : Outline) (order : List ℕ) → NotJudged k → Avoids k (orderCauses o order)
+order-avoids k o order n = (λ _. n .not-9, tt)
 
-pub step-avoids : (k : ℕ) (c : Call) (l : Ledger) → NotOfStep k → Avoids k (stepCauses c l)
+step-avoids : (k : ℕ) (c : Call) (l : Ledger) → NotJudged k → Avoids k (stepCauses c l)
 step-avoids k Open l n = tt
 step-avoids k Show l n = tt
 step-avoids k (Decide e) l n = (λ _. n .not-10, (λ _. n .not-11, (λ _. n .not-12, tt)))
 step-avoids k Back l n = (λ _. n .not-13, tt)
 step-avoids k CoilOn l n = tt
 
--- ---- 15 and 7 to 13
+-- ---- 15, 7 and 9 to 13
 
 module _ (o : Outline) (c : Call) (engine : ℕ) (order : List ℕ) (l : Ledger) where
   abbrev found : ℕ
@@ -72,7 +95,7 @@ module _ (o : Outline) (c : Call) (engine : ℕ) (order : List ℕ) (l : Ledger)
 
   -- the stages after the place, and after the engine
   abbrev late : List Cause
-  late = orderCauses o engine order ++ stepCauses c l
+  late = orderCauses o order ++ stepCauses c l
 
   abbrev placed : List Cause
   placed = placeCauses o c ++ late
@@ -81,25 +104,27 @@ module _ (o : Outline) (c : Call) (engine : ℕ) (order : List ℕ) (l : Ledger)
   session-numbered = session-avoids 0 o c l (λ _ z. omega arith)
 
   engine-numbered : Numbered (engineCauses engine)
-  engine-numbered = (λ _ z. omega arith, tt)
+  engine-numbered = engine-avoids 0 engine none-is-0
 
   place-numbered : Numbered (placeCauses o c)
-  place-numbered = place-avoids 0 o c (λ z. omega arith)
+  place-numbered = place-avoids 0 o c none-is-0
 
-  order-numbered : Numbered (orderCauses o engine order)
-  order-numbered = (λ _ z. omega arith, (λ _ z. omega arith, tt))
+  order-numbered : Numbered (orderCauses o order)
+  order-numbered = order-avoids 0 o order none-is-0
 
   step-numbered : Numbered (stepCauses c l)
-  step-numbered = step-avoids 0 c l
-      (record { not-10 = λ z. omega arith; not-11 = λ z. omega arith; not-12 = λ z. omega arith; not-13 = λ z. omega arith })
+  step-numbered = step-avoids 0 c l none-is-0
 
-  pub judged-numbered : Numbered (judged o c engine order l)
+  judged-avoids : (k : ℕ) → (malformed o l ≡ true → MALFORMED ≡ k → ⊥) → NotJudged k → Avoids k (judged o c engine order l)
   unfolding judged
-  judged-numbered =
-      avoids-++ 0 (sessionCauses o c l) (engineCauses engine ++ placed) session-numbered
-      (avoids-++ 0 (engineCauses engine) placed engine-numbered
-      (avoids-++ 0 (placeCauses o c) late place-numbered
-      (avoids-++ 0 (orderCauses o engine order) (stepCauses c l) order-numbered step-numbered)))
+  judged-avoids k m n =
+      avoids-++ k (sessionCauses o c l) (engineCauses engine ++ placed) (session-avoids k o c l m)
+      (avoids-++ k (engineCauses engine) placed (engine-avoids k engine n)
+      (avoids-++ k (placeCauses o c) late (place-avoids k o c n)
+      (avoids-++ k (orderCauses o order) (stepCauses c l) (order-avoids k o order n) (step-avoids k c l n))))
+
+  judged-numbered : Numbered (judged o c engine order l)
+  judged-numbered = judged-avoids 0 (λ _ z. omega arith) none-is-0
 
   -- Each stage decides where those before it have no cause that applies.
   pub judged-session : (k : ℕ) → (k ≡ 0 → ⊥) → k ≡ first (sessionCauses o c l) → k ≡ found
@@ -125,18 +150,18 @@ module _ (o : Outline) (c : Call) (engine : ℕ) (order : List ℕ) (l : Ledger)
         after-place : {k : ℕ} → k ≡ first late → k ≡ found
         after-place e = after-engine (first-there (placeCauses o c) _ place-numbered p e)
 
-        pub judged-order : (k : ℕ) → (k ≡ 0 → ⊥) → k ≡ first (orderCauses o engine order) → k ≡ found
-        judged-order k n e = after-place (first-here (orderCauses o engine order) _ order-numbered k n e)
+        pub judged-order : (k : ℕ) → (k ≡ 0 → ⊥) → k ≡ first (orderCauses o order) → k ≡ found
+        judged-order k n e = after-place (first-here (orderCauses o order) _ order-numbered k n e)
 
-        pub judged-step : first (orderCauses o engine order) ≡ 0 → {k : ℕ} → k ≡ first (stepCauses c l) → k ≡ found
-        judged-step r e = after-place (first-there (orderCauses o engine order) _ order-numbered r e)
+        pub judged-step : first (orderCauses o order) ≡ 0 → {k : ℕ} → k ≡ first (stepCauses c l) → k ≡ found
+        judged-step r e = after-place (first-there (orderCauses o order) _ order-numbered r e)
 
   -- no cause of any stage applies
   pub record Clear : Type 0 where
     pub of-session : None (sessionCauses o c l)
     pub of-engine : None (engineCauses engine)
     pub of-place : None (placeCauses o c)
-    pub of-order : None (orderCauses o engine order)
+    pub of-order : None (orderCauses o order)
     pub of-step : None (stepCauses c l)
 
   pub clear : found ≡ 0 → Clear
@@ -145,14 +170,17 @@ module _ (o : Outline) (c : Call) (engine : ℕ) (order : List ℕ) (l : Ledger)
       let a = first-both (sessionCauses o c l) _ session-numbered e in
       let b = first-both (engineCauses engine) _ engine-numbered (a .1) in
       let d = first-both (placeCauses o c) _ place-numbered (b .1) in
-      let f = first-both (orderCauses o engine order) _ order-numbered (d .1) in
+      let f = first-both (orderCauses o order) _ order-numbered (d .1) in
       record {
         of-session = first-none (sessionCauses o c l) session-numbered (a .0);
         of-engine = first-none (engineCauses engine) engine-numbered (b .0);
         of-place = first-none (placeCauses o c) place-numbered (d .0);
-        of-order = first-none (orderCauses o engine order) order-numbered (f .0);
+        of-order = first-none (orderCauses o order) order-numbered (f .0);
         of-step = first-none (stepCauses c l) step-numbered (f .1);
       }
+
+  pub clear-order : Clear → isOrder (o .fields) order ≡ true
+  clear-order v = not-back _ (v .of-order .0)
 
 -- ---- the number of a call
 
@@ -192,13 +220,26 @@ module _ (g : Given) (c : Call) (l : Ledger) where
       after-sheet e = after-space (first-there (sheetCauses (g .sheet)) _ sheet-numbered
           (sym (first-next _ _ _ (ap not (eq-eqb (refusal (ofBytes (g .sheet))) 0 r)) first-end)) e)
 
-      -- 15 and 7 to 13
+      -- 15, 7 and 9 to 13
       pub number-judged : (k : ℕ) → (k ≡ 0 → ⊥) → k ≡ first early → k ≡ number g c l
       number-judged k n e = after-sheet (first-here early _ early-numbered k n e)
 
       -- 14, or none
       pub number-offers : first early ≡ 0 → {k : ℕ} → k ≡ first (offersCauses xs (step c l)) → k ≡ number g c l
       number-offers z e = after-sheet (first-there early _ early-numbered z e)
+
+  -- A number past 6 that no cause has is not given, and neither is that of a cause that does not apply, 15.
+  pub number-avoids : (k : ℕ) → 6 < k → (WIPED-OUT ≡ k → ⊥) → (malformed (outlineOf xs) l ≡ true → MALFORMED ≡ k → ⊥)
+      → (7 ≤ k → k ≤ 13 → k ≡ 8) → number g c l ≡ k → ⊥
+  unfolding number causes
+  number-avoids k h w m n = first-avoids k (causes g c l) (λ z. omega arith) (
+    λ _ z. omega arith,
+    (
+      λ _ z. let few = refusal-few (ofBytes (g .sheet)) in omega arith,
+      avoids-++ k early (offersCauses xs (step c l))
+          (judged-avoids (outlineOf xs) c (g .engine) (g .order) l k m (not-judged k n)) (λ _. w, tt),
+    ),
+  )
 
   -- where the number is 0 no cause applies
   module _ (e : number g c l ≡ 0) where

@@ -5,8 +5,8 @@ use mathlib.Core.List.{List, [], _∷_, _++_}
 use Prim.Native.Nat.{ℕ}
 use lib.Dec.{eqb, ltb}
 use lib.ListN.{length, getD}
-use Rattle.limits.specs.Limits.{wholeReach, mostEvents, offersWords, rowsWords, memoryWords}
-use Rattle.limits.specs.Refusals.{TOO-SHORT, UNKNOWN, TOO-NARROW, NO-ORDER, ADDED-AGAIN, NOT-IN-FORCE, NO-ROOM, NOTHING-PAST}
+use Rattle.limits.specs.Limits.{mostEvents, offersWords, rowsWords, memoryWords}
+use Rattle.limits.specs.Refusals.{TOO-SHORT, UNKNOWN, NO-ORDER, ADDED-AGAIN, NOT-IN-FORCE, NO-ROOM, NOTHING-PAST}
 use Rattle.limits.specs.Refusals.{WIPED-OUT, MALFORMED}
 use Rattle.masks.specs.Tests.{allBelow}
 use Rattle.masks.specs.Masks.{keepBits, someBit}
@@ -245,17 +245,14 @@ placeCauses o (Decide e) = settingCauses o e
 placeCauses o Back = []
 placeCauses o CoilOn = []
 
--- ---- the reach and the order: 8, 9
-
-abbrev pub tooNarrow : Outline → ℕ → Bool
-tooNarrow o engine = eqb engine 2 && ltb (o .reach) wholeReach
+-- ---- the order: 9
 
 -- a list of n bytes holding every field position just one time
 unfoldable pub isOrder : ℕ → List ℕ → Bool
 isOrder n order = eqb (length order) n && allBelow n (λ f. eqb (occurrences f order) 1)
 
-abbrev pub orderCauses : Outline → ℕ → List ℕ → List Cause
-orderCauses o engine order = because (tooNarrow o engine) TOO-NARROW ∷ because (not (isOrder (o .fields) order)) NO-ORDER ∷ []
+abbrev pub orderCauses : Outline → List ℕ → List Cause
+orderCauses o order = because (not (isOrder (o .fields) order)) NO-ORDER ∷ []
 
 -- ---- the step: 10, 11 and 12 for a call that changes the decisions, 13 for back
 
@@ -290,10 +287,10 @@ offersCauses xs l = because (wiped xs l) WIPED-OUT ∷ []
 
 -- ---- all of them, in 01's order
 
--- 15, 7, 8, 9, 10, 11, 13, 12, for an accepted sheet
+-- 15, 7, 9, 10, 11, 13, 12, for an accepted sheet
 unfoldable pub judged : Outline → Call → ℕ → List ℕ → Ledger → List Cause
 judged o c engine order l =
-    sessionCauses o c l ++ (engineCauses engine ++ (placeCauses o c ++ (orderCauses o engine order ++ stepCauses c l)))
+    sessionCauses o c l ++ (engineCauses engine ++ (placeCauses o c ++ (orderCauses o order ++ stepCauses c l)))
 
 -- 6; 1 to 5; these; 14
 unfoldable pub causes : Given → Call → Ledger → List Cause

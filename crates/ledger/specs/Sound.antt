@@ -1,4 +1,5 @@
--- A ledger that began with an open is never malformed: every accepted call keeps it so, and so no call answers 15. Assumes nothing.
+-- A ledger that began with an open is never malformed: every accepted call keeps it so, and so no call answers 15. And no call answers 8,
+-- whatever the ledger holds. Assumes nothing.
 use mathlib.Core.Path.{_≡_, refl, sym, ap, _∙_}
 use mathlib.Core.Logic.{⊎-elim}
 use mathlib.Core.Bool.{Bool, true, false, not, _&&_, _||_, and-false}
@@ -9,23 +10,20 @@ use lib.Dec.{eqb}
 use lib.ListN.{length}
 use borrow.Author.Tests.{eqb-true, eqb-false, le-ltb}
 use Rattle.limits.specs.Limits.{mostEvents}
-use Rattle.limits.specs.Refusals.{MALFORMED}
+use Rattle.limits.specs.Refusals.{TOO-NARROW, MALFORMED}
 use Rattle.masks.specs.Tests.{never, bool-cases, and-l, and-r, and-by, or-l}
 use Rattle.masks.specs.Pick.{pick-true, pick-false}
 use Rattle.sheet.specs.Sources.{numbers, ofBytes}
 use Rattle.accepted.specs.declared.outline.Outline.{Outline}
 use Rattle.accepted.specs.Outline.{outlineOf}
-use Rattle.accepted.specs.Refused.{refusal-few}
 use Rattle.ledger.specs.declared.Event.{Event}
 use Rattle.ledger.specs.declared.Call.{Call}
 use Rattle.ledger.specs.declared.Call.the-variants.{Open, Show, Decide, Back, CoilOn}
 use Rattle.ledger.specs.Ledger.{Decision, Change, adds, withdraws, neither, changeOf, Ledger, sameDecision, inForce, with, without}
 use Rattle.ledger.specs.Ledger.{applied, reverted, opened, backed, step, Given, onSheet, allOnSheet, revertible, reversible}
-use Rattle.ledger.specs.Ledger.{malformed, offSheet, addedAgain, withdrawnUnheld, sessionCauses}
-use Rattle.ledger.specs.Ledger.{placeCauses, judged, causes, number, after}
-use Rattle.ledger.specs.Causes.{Avoids, avoids-++, first-avoids}
+use Rattle.ledger.specs.Ledger.{malformed, offSheet, addedAgain, withdrawnUnheld, number, after}
 use Rattle.ledger.specs.Laws.{decision-at, decision-self, inForce-with, inForce-without, allOn-at, allOn-by, Alike, alike-reversible}
-use Rattle.ledger.specs.Judging.{Clear, none-applies, not-back, well-formed, session-avoids, place-avoids, step-avoids}
+use Rattle.ledger.specs.Judging.{Clear, none-applies, not-back, well-formed, number-avoids}
 
 pub and-true : (b : Bool) → (b && true) ≡ b
 and-true true = refl
@@ -132,22 +130,6 @@ module _ (o : Outline) where
       let w = well-formed o l f in
       unfold step in formed-by (record { decisions = l .decisions; events = [] }) (w .0) (omega arith) (unfold reversible in refl)
 
-  judged-avoids : (c : Call) (engine : ℕ) (order : List ℕ) (l : Ledger) → malformed o l ≡ false
-      → Avoids MALFORMED (judged o c engine order l)
-  unfolding judged
-  judged-avoids c engine order l f =
-      avoids-++ MALFORMED (sessionCauses o c l) _ (session-avoids MALFORMED o c l (λ e _. never e f)) (
-        λ _ z. omega arith,
-        avoids-++ MALFORMED (placeCauses o c) _ (place-avoids MALFORMED o c (λ z. omega arith)) (
-          λ _ z. omega arith,
-          (
-            λ _ z. omega arith,
-            step-avoids MALFORMED c l
-                (record { not-10 = λ z. omega arith; not-11 = λ z. omega arith; not-12 = λ z. omega arith; not-13 = λ z. omega arith }),
-          ),
-        ),
-      )
-
 module _ (g : Given) (l : Ledger) where
   abbrev o : Outline
   o = outlineOf (numbers (ofBytes (g .sheet)))
@@ -165,11 +147,8 @@ module _ (g : Given) (l : Ledger) where
 
   -- A call on a ledger that is not malformed does not answer 15.
   pub never-15 : (c : Call) → malformed o l ≡ false → number g c l ≡ MALFORMED → ⊥
-  unfolding number causes
-  never-15 c f = first-avoids MALFORMED _ (λ z. omega arith) (
-    λ _ z. omega arith,
-    (
-      λ _ z. let h = refusal-few (ofBytes (g .sheet)) in omega arith,
-      avoids-++ MALFORMED (judged o c (g .engine) (g .order) l) _ (judged-avoids o c (g .engine) (g .order) l f) (λ _ z. omega arith, tt),
-    ),
-  )
+  never-15 c f = number-avoids g c l MALFORMED (omega arith) (λ z. omega arith) (λ e _. never e f) (λ a b. omega arith)
+
+  -- No call gives 8, whatever it is given and whatever the ledger holds (02, request 2).
+  pub never-8 : (c : Call) → number g c l ≡ TOO-NARROW → ⊥
+  never-8 c = number-avoids g c l TOO-NARROW (omega arith) (λ z. omega arith) (λ _ z. omega arith) (λ a b. omega arith)

@@ -7,7 +7,7 @@ use Prim.Native.Nat.{ℕ, _<_}
 use native.Mathlib.Omega.{arith}
 use lib.Dec.{eqb}
 use borrow.Author.Tests.{eqb-true, eq-eqb, ne-eqb, lt-ltb}
-use Rattle.limits.specs.Refusals.{UNKNOWN, TOO-NARROW, NO-ORDER}
+use Rattle.limits.specs.Refusals.{UNKNOWN, NO-ORDER}
 use Rattle.masks.specs.Tests.{never, not-so, and-l, and-r, and-by, or-l, or-r, or-at, someBelow, someBelow-at}
 use Rattle.masks.specs.Tests.{someBelow-by}
 use Rattle.masks.specs.Bits.{bit}
@@ -170,11 +170,10 @@ lending g engine order = record { sheet = g .sheet; engine = engine; order = ord
 -- not refused for its engine, decision or order
 pub record Admitted (k : ℕ) : Type 0 where
   pub not-7 : k ≡ UNKNOWN → ⊥
-  pub not-8 : k ≡ TOO-NARROW → ⊥
   pub not-9 : k ≡ NO-ORDER → ⊥
 
 admitted-0 : Admitted 0
-admitted-0 = record { not-7 = λ z. omega arith; not-8 = λ z. omega arith; not-9 = λ z. omega arith }
+admitted-0 = record { not-7 = λ z. omega arith; not-9 = λ z. omega arith }
 
 -- the causes of the decision that a call names, where none of them decides
 place-skipped : (o : Outline) (c : Call) (rest : List Cause) → Admitted (first (placeCauses o c ++ rest))
@@ -188,7 +187,7 @@ place-skipped o CoilOn rest t = refl
 module _ (o : Outline) (c : Call) (engine : ℕ) (order : List ℕ) (l : Ledger) where
   -- the causes after those of the place, of the engine, and of the session
   abbrev late : List Cause
-  late = orderCauses o engine order ++ stepCauses c l
+  late = orderCauses o order ++ stepCauses c l
 
   abbrev placed : List Cause
   placed = placeCauses o c ++ late
@@ -201,7 +200,7 @@ module _ (o : Outline) (c : Call) (engine : ℕ) (order : List ℕ) (l : Ledger)
       let a = first-skip (engineCauses engine) placed (t .not-7, tt) in
       let b = place-skipped o c late (rw a at t) in
       let d = rw b at (rw a at t) in
-      a ∙ b ∙ first-skip (orderCauses o engine order) (stepCauses c l) (d .not-8, (d .not-9, tt))
+      a ∙ b ∙ first-skip (orderCauses o order) (stepCauses c l) (d .not-9, tt)
 
   -- where no cause of engine, decision or order decides, those of the session and the step do
   judged-else : Admitted (first (judged o c engine order l)) → first (judged o c engine order l)

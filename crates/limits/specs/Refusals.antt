@@ -29,7 +29,7 @@ TOO-SHORT = 6
 abbrev pub UNKNOWN : ℕ
 UNKNOWN = 7
 
--- engine 2 with a reach below 24
+-- no call gives it (02, request 2): in 01 it was engine 2 with a reach below 24
 abbrev pub TOO-NARROW : ℕ
 TOO-NARROW = 8
 

@@ -1,4 +1,4 @@
-// The numbers of the refusals (01's table, and 02). `specs/Refusals.antt` has the same names.
+// The numbers of the refusals (01's table, and 02). `specs/Refusals.antt` has the same names, and that of 8, which no call gives.
 pub const ENDS_INSIDE: u32 = 1;
 
 pub const ILL_FORMED: u32 = 2;
@@ -12,8 +12,6 @@ pub const SURPLUS: u32 = 5;
 pub const TOO_SHORT: u32 = 6;
 
 pub const UNKNOWN: u32 = 7;
-
-pub const TOO_NARROW: u32 = 8;
 
 pub const NO_ORDER: u32 = 9;
 

@@ -61,7 +61,7 @@ abbrev pub pageOf : Turn → CallResult
 pageOf t = record { number = t .number; session = t .session′; offers = t .left .offers }
 
 -- the number of a result is the ledger's on what the session shows
-result-number : (g : Given) (c : Call) (s : Session) (before : List ℕ) → result g c s before .number ≡ number g c (view s)
+pub result-number : (g : Given) (c : Call) (s : Session) (before : List ℕ) → result g c s before .number ≡ number g c (view s)
 unfolding result
 result-number g c s before = go (number g c (view s)) (eqb (number g c (view s)) 0) refl
   where

@@ -3,3 +3,4 @@ pub mod Outer
 pub mod RoundTrips
 pub mod Sequence
 pub mod Corollaries
+pub mod No8

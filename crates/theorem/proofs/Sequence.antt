@@ -22,7 +22,7 @@ pub data Called (t : Turn) : Type 0 where
   by-value : inner.Called t → Called t
   by-reference : outer.Called t → Called t
 
-answered : {t : Turn} → Called t → Answered t
+pub answered : {t : Turn} → Called t → Answered t
 answered (by-value m) = inner.answered m
 answered (by-reference m) = outer.answered m
 

@@ -104,8 +104,8 @@ module _ (P : Problem) (W f : ℕ) where
               live = removed-live P W S f v d false changed R r refl (p .live);
               lefts = λ u e. and-r (bit (clear left v) u) _ (sym (bit-and (clear left v) (getD R f 0) u) ∙ e);
               steady = λ k o w. removed-steady P W S f v d false changed R r refl k o w ∙ p .steady k o w;
-              passed = λ own u h n. passes-same P W S R f u (s .inside) h
-                  (λ g i e. s .same g (not-so (bit changed g) (λ y. e (own g (or-in g y) (i .1)))))
+              passed = λ own u h n. passes-same P W S R f u h
+                  (λ g i e. s .same g (not-so (bit changed g) (λ y. e (own g (or-in g y) i))))
                   (p .passed (λ g y. own g (or-old g y)) u (s .inside f u h) (was-off u h n));
             }
           where

@@ -1,27 +1,37 @@
 // What engine 2 remembers of passed tests, and the test that looks there first.
+ghost use mathlib.Core.Logic.{_↔_};
 ghost use mathlib.Core.Path.{_≡_};
 ghost use mathlib.Core.Bool.{true};
-ghost use Prim.Native.Nat.{_+_, _≤_};
-ghost use lib.Dec.{eqb};
-ghost use lib.ListN.{length};
-ghost use Rattle.limits.specs.Limits.{mostFields};
+ghost use Prim.Native.Nat.{_+_, _≤_, _<_};
+ghost use lib.ListN.{length, getD};
+ghost use Rattle.limits.specs.Limits.{mostFields, mostSettings, memoryWords};
 ghost use Rattle.masks.specs.Sets.{has, _⊆_};
+ghost use Rattle.masks.specs.Restrict.{restrict};
 ghost use Rattle.network.specs.Tables.{problemOf};
+ghost use Rattle.network.specs.Stored.{Stored, wordsOf};
 ghost use Rattle.closing.specs.Asks.{Masks, LiveAsks};
-ghost use Rattle.visiting.specs.Store.{recall, lackBelow, HoodAsks, Store, Checked};
+ghost use Rattle.visiting.specs.Memory.{placeOf, recall};
+ghost use Rattle.visiting.specs.Store.{HoodAsks, Store, Checked};
 use closing::test::test;
 use limits::FIELDS;
 use limits::SETTINGS;
 use masks::Domains;
+use masks::flood;
 use masks::has_bit;
 use masks::one_bit;
-use network::rows::store;
+
+// Where the masks of position v of field f are in the memory.
+fn place(f: usize, v: usize) -> usize
+    requires { ⌜ (f < mostFields) × (v < mostSettings) ⌝ }
+    ensures { λ r. ⌜ r ≡ placeOf f v ⌝ }
+{
+    (f * SETTINGS + v) * FIELDS
+}
 
 // Whether m holds all of the masks at a place of the memory.
 fn intact(memory: &[u32], base: usize, m: &[u32; FIELDS]) -> bool
     requires { ⌜ (base + mostFields ≤ length (now memory)) × Masks (now m) ⌝ }
-    ensures { λ r. ⌜ (r ≡ eqb (lackBelow mostFields (now (memory .entry)) base (now (m .entry))) 0)
-        × (r ≡ true → recall (now (memory .entry)) base ⊆ now (m .entry)) ⌝ }
+    ensures { λ r. ⌜ (r ≡ true) ↔ (recall (now (memory .entry)) base ⊆ now (m .entry)) ⌝ }
 {
     let mut lack: u32 = 0;
     let mut h: usize = 0;
@@ -32,9 +42,36 @@ fn intact(memory: &[u32], base: usize, m: &[u32; FIELDS]) -> bool
     lack == 0
 }
 
-// Whether position v of field f passes in the set m over f's neighbourhood. With `remembers`, what a passed test left is remembered, and
-// while the set holds all of it the setting is not tested again. It is called for each setting: the parts of the network are lent, since a
-// copy of it would cost a tenth of the time on small sheets.
+// Whether position v of field f passed a test, and m still holds all that is remembered of it.
+fn recalled(m: &[u32; FIELDS], known: &[u32; FIELDS], memory: &[u32], f: usize, v: usize) -> bool
+    requires { ⌜ (f < mostFields) × (v < mostSettings) × (memoryWords ≤ length (now memory)) × Masks (now m) ⌝ }
+    ensures { λ r. ⌜ (r ≡ true) ↔ ((has (now (known .entry)) f v ≡ true)
+        × (recall (now (memory .entry)) (placeOf f v) ⊆ now (m .entry))) ⌝ }
+{
+    if has_bit(known[f], v) {
+        return intact(memory, place(f, v), m);
+    }
+    false
+}
+
+// Remembers what a passed test of position v of field f left: the masks of f's neighbourhood, and 0 for the other fields.
+fn remember(memory: &mut [u32], hood: &[u32; FIELDS], f: usize, v: usize, left: &[u32; FIELDS])
+    requires { ⌜ (f < mostFields) × (v < mostSettings) × (memoryWords ≤ length (now memory)) × Masks (now left) ⌝ }
+    ensures { λ _. ⌜ Stored (now (memory .entry)) (placeOf f v) (wordsOf (restrict (getD (now (hood .entry)) f 0) (now (left .entry))))
+        mostFields (now (memory .exit)) ⌝ }
+{
+    let base = place(f, v);
+    let within = hood[f];
+    let mut h: usize = 0;
+    while h < FIELDS {
+        memory[base + h] = left[h] & flood(within, h);
+        h += 1;
+    }
+}
+
+// Whether position v of field f passes in the set m over f's neighbourhood. With `remembers`, what a passed test left in the neighbourhood
+// is remembered, and while the set holds all of it the setting is not tested again. It is called for each setting: the parts of the network
+// are lent, since a copy of it would cost a tenth of the time on small sheets.
 pub fn check<'a, 'n>(
     m: &[u32; FIELDS],
     known: &mut [u32; FIELDS],
@@ -49,28 +86,24 @@ pub fn check<'a, 'n>(
     turned: &'a [u32],
 ) -> bool
     requires { ⌜ LiveAsks n (now joined) (now forward) (now turned) (now m)
-        × Store (problemOf n (now joined) (now forward) (now turned)) (now hood) (now known) (now memory) ⌝ }
+        × Store (problemOf n (now joined) (now forward) (now turned)) (now hood) (now m) (now known) (now memory) ⌝ }
     requires { ⌜ HoodAsks (problemOf n (now joined) (now forward) (now turned)) (now hood) f × (has (now m) f v ≡ true) ⌝ }
     ensures { λ r. ⌜ Checked (problemOf n (now (joined .entry)) (now (forward .entry)) (now (turned .entry))) (now (hood .entry))
-        (now (m .entry)) f v r (now (known .exit)) (now (memory .exit)) ⌝ }
+        (now (m .entry)) remembers f v r (now (known .exit)) (now (memory .exit)) ⌝ }
 {
-    let within = hood[f];
-    let base = (f * SETTINGS + v) * FIELDS;
     if remembers {
-        if has_bit(known[f], v) {
-            if intact(memory, base, m) {
-                return true;
-            }
+        if recalled(m, known, memory, f, v) {
+            return true;
         }
     }
     let masks = *m;
     let set = Domains { masks };
     let mut left = set.cut(f, v);
-    if !test(&mut left.masks, n, f, within, joined, forward, turned) {
+    if !test(&mut left.masks, n, f, hood[f], joined, forward, turned) {
         return false;
     }
     if remembers {
-        store(memory, base, &left.masks);
+        remember(memory, hood, f, v, &left.masks);
         known[f] |= one_bit(v);
     }
     true

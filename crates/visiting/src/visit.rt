@@ -1,4 +1,6 @@
 // The visit of a field.
+ghost use mathlib.Core.Path.{_≡_};
+ghost use mathlib.Core.Bool.{false};
 ghost use Prim.Native.Nat.{_<_};
 ghost use lib.ListN.{getD};
 ghost use Rattle.network.specs.Network.{problemIn};
@@ -25,11 +27,12 @@ pub fn visit<'a>(
     turned: &'a [u32],
 ) -> Narrowed
     requires { ⌜ LiveAsks (net .fields) (net .joined) (now forward) (now turned) (now m)
-        × Store (problemIn net (now forward) (now turned)) (net .hood) (now known) (now memory) ⌝ }
+        × Store (problemIn net (now forward) (now turned)) (net .hood) (now m) (now known) (now memory) ⌝ }
     requires { ⌜ (f < net .fields) × HoodAsks (problemIn net (now forward) (now turned)) (net .hood) f ⌝ }
     ensures { λ r. ⌜ Visited (problemIn net (now (forward .entry)) (now (turned .entry))) (getD (net .hood) f 0) f
         (now (m .entry)) (r .wiped) (r .changed) (now (m .exit))
-        × Store (problemIn net (now (forward .entry)) (now (turned .entry))) (net .hood) (now (known .exit)) (now (memory .exit)) ⌝ }
+        × (r .wiped ≡ false → Store (problemIn net (now (forward .entry)) (now (turned .entry))) (net .hood) (now (m .exit))
+        (now (known .exit)) (now (memory .exit))) ⌝ }
 {
     let n = net.fields;
     let mut touched: u32 = 0;

@@ -3,16 +3,16 @@
 use crate::raw::{MEMORY_WORDS, OFFERS_WORDS, ROWS_WORDS};
 use crate::sheet::Sheet;
 
-/// The engines by their numbers.
+/// The engines by their numbers. Each runs at every reach.
 #[derive(Clone, Copy, Debug, Default, PartialEq, Eq, Hash)]
 #[repr(u32)]
 pub enum Engine {
-    /// SAC-1, at every reach.
+    /// SAC-1: passes over all fields until one changes nothing.
     #[default]
     Sac1 = 1,
-    /// SAC-2, at reach 24 only.
+    /// SAC-2: as SAC-1, but a setting that passed its test is tested again only when some of what the test left has gone.
     Sac2 = 2,
-    /// The queue method, at every reach.
+    /// The queue method: only fields whose neighbourhood changed are visited again.
     Queue = 3,
 }
 

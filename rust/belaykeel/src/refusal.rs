@@ -34,7 +34,7 @@ refusals! {
     5 Surplus "Bytes or numbers follow the last rule."
     6 TooShort "The offers list, a work space or the output is too short."
     7 Unknown "The engine is not 1 to 3, or the field or position is not on the sheet."
-    8 TooNarrow "Engine 2 with a reach below 24."
+    8 TooNarrow "Never given: engine 2 runs at every reach."
     9 NoOrder "The order does not hold every field just one time."
     10 AddedAgain "The decision to add is in force."
     11 NotInForce "The decision to withdraw is not in force."

@@ -19,6 +19,7 @@ const AGREES: (&str, &str) = ("theorem/specs/Follows.antt", "Agrees");
 const STATEMENTS: &[(&str, &str)] = &[
     ("theorem/proofs/Sequence.antt", "demand-3"),
     ("theorem/proofs/Corollaries.antt", "no-15 engine-order-spaces back-shows-again"),
+    ("theorem/proofs/No8.antt", "no-8"),
     ("theorem/proofs/Inner.antt", "answered every-call"),
     ("theorem/proofs/Inner.antt", "open-free show-free choose-free strike-free withdraw-choice-free withdraw-strike-free"),
     ("theorem/proofs/Inner.antt", "back-free coil-on-free"),
@@ -39,6 +40,7 @@ const STATEMENTS: &[(&str, &str)] = &[
     ("accepted/specs/Theorems.antt", "most-bytes most-numbers most-sheet-bytes most-sheet-numbers enough-room"),
     ("consistency/specs/Closing.antt", "closing-is"),
     ("consistency/specs/Offers.antt", "offers-is"),
+    ("consistency/specs/Remembered.antt", "passes-again"),
     ("consistency/specs/Neighbourhood.antt", "neighbourhood-walk neighbourhood-whole"),
 ];
 

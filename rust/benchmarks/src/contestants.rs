@@ -6,28 +6,23 @@ use crate::plain::methods;
 use crate::proved::Proved;
 use crate::role::Role;
 use crate::task::{Job, Lent, Task};
-use crate::{Offers, WHOLE_REACH};
+use crate::Offers;
 use belaykeel::raw::OFFERS_WORDS;
 use belaykeel::{Engine, Session};
 use std::hint::black_box;
 use tests::linked::{Library, Linked};
 
-/// The proved engines for a reach.
-fn proved(reach: u32) -> impl Iterator<Item = Engine> {
-    Engine::ALL.into_iter().filter(move |&engine| engine != Engine::Sac2 || reach == WHOLE_REACH)
-}
-
-/// All engines for sheets of this reach and of at most so many fields, the proved ones first.
-pub fn engines(fields: usize, reach: u32) -> Vec<Contestant<Job, Offers>> {
+/// All engines for sheets of at most so many fields, the proved ones first.
+pub fn engines(fields: usize) -> Vec<Contestant<Job, Offers>> {
     let mut all = vec![];
-    for engine in proved(reach) {
+    for engine in Engine::ALL {
         let mut proved = Proved::default();
         all.push(Contestant::new(Role::Proved(engine), move |job| {
             let (answer, time) = proved.offers(engine, job);
             Run { answer, tests: 0, time }
         }));
     }
-    for (role, mut method) in methods(fields, reach) {
+    for (role, mut method) in methods(fields) {
         all.push(Contestant::new(role, move |job| {
             let (found, time) = timed(|| method(job));
             Run { answer: found.offers, tests: found.tests, time }
@@ -42,10 +37,10 @@ pub type Left = (u32, Session, [u32; OFFERS_WORDS]);
 /// What the offers list holds before a call.
 const NO_OFFERS: u32 = 0xA5C3_0F1E;
 
-/// All libraries for sheets of this reach and of at most so many fields, the proved one first.
-pub fn libraries(fields: usize, reach: u32) -> Vec<Contestant<Task, Left>> {
-    let proved = proved(reach).map(|engine| library(Role::Proved(engine), engine, Linked));
-    let plain = methods(fields, reach).into_iter().map(|(role, method)| library(role, Engine::Sac1, Plain::new(method)));
+/// All libraries for sheets of at most so many fields, the proved one first.
+pub fn libraries(fields: usize) -> Vec<Contestant<Task, Left>> {
+    let proved = Engine::ALL.into_iter().map(|engine| library(Role::Proved(engine), engine, Linked));
+    let plain = methods(fields).into_iter().map(|(role, method)| library(role, Engine::Sac1, Plain::new(method)));
     proved.chain(plain).collect()
 }
 

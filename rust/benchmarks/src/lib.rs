@@ -1,5 +1,5 @@
-//! The jobs of the library in plain Rust. The tests compare the proved code with it, and the programs `reading`, `engines` and `calls` time
-//! both.
+//! The jobs of the library in plain Rust. The tests compare the proved code with it, and the programs `reading`, `engines`, `savings` and
+//! `calls` time both.
 
 #![deny(unsafe_code)]
 

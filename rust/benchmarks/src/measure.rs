@@ -115,14 +115,15 @@ impl<A: PartialEq + Debug> Measured<A> {
         measured
     }
 
-    /// The contestant of the given roles whose median time is the least, where there is one.
-    pub fn find(&self, roles: &[Role]) -> Option<&Column> {
-        self.columns.iter().filter(|column| roles.contains(&column.role)).min_by(|a, b| a.median().total_cmp(&b.median()))
-    }
-
     /// The contestant of the given roles whose median time is the least.
     pub fn fastest(&self, roles: &[Role]) -> &Column {
-        self.find(roles).expect("a contestant of these roles")
+        let columns = self.columns.iter().filter(|column| roles.contains(&column.role));
+        columns.min_by(|a, b| a.median().total_cmp(&b.median())).expect("a contestant of these roles")
+    }
+
+    /// The contestant of a role.
+    pub fn column(&self, role: Role) -> &Column {
+        self.fastest(&[role])
     }
 }
 

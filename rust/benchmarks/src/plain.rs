@@ -10,7 +10,7 @@ pub mod reading;
 
 use crate::role::Role;
 use crate::task::Job;
-use crate::{Offers, MOST, WHOLE_REACH};
+use crate::{Offers, MOST};
 use closing::Closing;
 use engines::Solver;
 use lanes::Lanes;
@@ -25,14 +25,14 @@ pub struct Found {
 /// A method with its tables, which are made once. It goes from the list of numbers to the offers.
 pub type Method = Box<dyn FnMut(&Job) -> Found>;
 
-/// The plain methods for sheets of this reach and of at most so many fields.
-pub fn methods(fields: usize, reach: u32) -> Vec<(Role, Method)> {
+/// The plain methods for sheets of at most so many fields.
+pub fn methods(fields: usize) -> Vec<(Role, Method)> {
     let mut all = vec![(Role::Branching, sac1::<Pairs<Branching>>()), (Role::BranchFree, sac1::<Pairs<BranchFree>>())];
     all.extend(match fields {
-        0..=8 => at_once::<Lanes<8, 3>>(reach),
-        9..=12 => at_once::<Lanes<12, 4>>(reach),
-        13..=16 => at_once::<Lanes<16, 4>>(reach),
-        _ => at_once::<Lanes<24, 4>>(reach),
+        0..=8 => at_once::<Lanes<8, 3>>(),
+        9..=12 => at_once::<Lanes<12, 4>>(),
+        13..=16 => at_once::<Lanes<16, 4>>(),
+        _ => at_once::<Lanes<24, 4>>(),
     });
     all
 }
@@ -42,14 +42,14 @@ fn sac1<C: Closing + 'static>() -> Method {
     Box::new(move |job| solver.sac1(job))
 }
 
-/// SAC-1, the queue and SAC-2 over the fastest way of closing.
-fn at_once<C: Closing + 'static>(reach: u32) -> Vec<(Role, Method)> {
+/// SAC-1, SAC-2 and the queue over the fastest way of closing.
+fn at_once<C: Closing + 'static>() -> [(Role, Method); 3] {
+    let mut memory = Box::new([[[0; MOST]; MOST]; MOST]);
+    let mut sac2 = Solver::<C>::default();
     let mut queue = Solver::<C>::default();
-    let mut all: Vec<(Role, Method)> = vec![(Role::AtOnce, sac1::<C>()), (Role::Queue, Box::new(move |job| queue.queued(job)))];
-    if reach == WHOLE_REACH {
-        let mut sac2 = Solver::<C>::default();
-        let mut memory = Box::new([[[0; MOST]; MOST]; MOST]);
-        all.push((Role::Sac2, Box::new(move |job| sac2.sac2(&mut memory, job))));
-    }
-    all
+    [
+        (Role::AtOnce, sac1::<C>()),
+        (Role::Sac2, Box::new(move |job| sac2.sac2(&mut memory, job))),
+        (Role::Queue, Box::new(move |job| queue.queued(job))),
+    ]
 }

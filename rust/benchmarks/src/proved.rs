@@ -4,7 +4,7 @@
 use crate::measure::timed;
 use crate::plain::reading::outline;
 use crate::task::Job;
-use crate::{Offers, MOST, WHOLE_REACH};
+use crate::{Offers, MOST};
 use belaykeel::raw::{MEMORY_WORDS, ROWS_WORDS};
 use belaykeel::Engine;
 
@@ -37,7 +37,7 @@ impl Default for Proved {
 impl Proved {
     /// The offers, and the microseconds that they took. The numbers are checked and put at the front of the memory before that.
     pub fn offers(&mut self, engine: Engine, job: &Job) -> (Offers, f64) {
-        check(engine, job);
+        check(job);
         self.memory[..job.numbers.len()].copy_from_slice(&job.numbers);
         let (rows, memory, order) = (&mut self.rows, &mut self.memory, &job.order);
         let mut domains = job.start;
@@ -60,9 +60,8 @@ impl Proved {
 }
 
 /// Panics where the job lacks something that the library asks for.
-fn check(engine: Engine, job: &Job) {
+fn check(job: &Job) {
     let outline = outline(&job.numbers).unwrap_or_else(|number| panic!("refused with {number}: {job:?}"));
-    assert!(engine != Engine::Sac2 || outline.reach == WHOLE_REACH, "SAC-2 is for reach 24");
     let mut sorted = job.order.clone();
     sorted.sort_unstable();
     assert!(sorted.into_iter().map(usize::from).eq(0..outline.fields), "not an order: {job:?}");

@@ -29,6 +29,15 @@ pub fn row(cells: &[String]) {
     println!("| {} |", cells.join(" | "));
 }
 
+/// Prints how far apart pairs of numbers are: each difference in per cent, with a name.
+pub fn print_apart(what: &str, mut list: Vec<(f64, String)>) {
+    list.sort_by(|a, b| a.0.total_cmp(&b.0));
+    let (count, (largest, name)) = (list.len(), &list[list.len() - 1]);
+    let [middle, most] = [count / 2, count * 9 / 10].map(|place| list[place].0);
+    let others = format!("nine in ten by up to {most:.0} %, half by up to {middle:.0} %");
+    println!("- {count} {what} differ by up to {largest:.0} % ({name}), {others}.");
+}
+
 /// The difference of two numbers, in per cent of the smaller.
 pub fn apart([x, y]: [f64; 2]) -> f64 {
     100.0 * (x.max(y) / x.min(y) - 1.0)

@@ -51,7 +51,7 @@ fn sequence(plain: &mut dyn Library, seed: u64, tally: &mut Tally) {
             Step::Call(call) => {
                 let proved = left(&mut Linked, &held, &call, &given);
                 assert_eq!(left(plain, &held, &call, &given), proved, "seed {seed}: {call:?} on {held:?} of {given:?}");
-                tally.add(call.call, proved.0);
+                tally.add(&call, &given, proved.0);
                 held = proved.1;
             }
         }
@@ -62,14 +62,13 @@ fn sequence(plain: &mut dyn Library, seed: u64, tally: &mut Tally) {
 fn random_calls() {
     let mut seeds = Random(1);
     let mut tally = Tally::default();
-    // Methods for every reach and any number of fields.
-    let mut plains: Vec<Plain> = methods(24, 1).into_iter().map(|(_, method)| Plain::new(method)).collect();
+    let mut plains: Vec<Plain> = methods(24).into_iter().map(|(_, method)| Plain::new(method)).collect();
     for turn in 0..1000 {
         let which = turn % plains.len();
         sequence(&mut plains[which], seeds.word(), &mut tally);
     }
     println!("{tally}");
-    assert!((0..=15).all(|number| tally.number(number) > 0), "{tally}");
+    assert!((0..=15).all(|number| (tally.number(number) > 0) == (number != 8)), "{tally}");
 }
 
 #[test]
@@ -80,7 +79,7 @@ fn timed_calls() {
     for source in sources {
         let chosen = Chosen::new(Series::new(source, 1, REACHES), 2);
         for &reach in REACHES {
-            let mut all = libraries(source.fields(), reach);
+            let mut all = libraries(source.fields());
             for task in (0..CALLS.len()).flat_map(|call| chosen.tasks(call, reach)) {
                 agree(&mut all, &task);
             }

@@ -6,9 +6,11 @@ use benchmarks::measure::agree;
 use benchmarks::role::{Role, PLAIN_SAC1};
 use benchmarks::sheets::Class;
 use benchmarks::task::Job;
-use benchmarks::{Domains, Offers};
+use benchmarks::{Domains, Offers, WHOLE_REACH};
 use random::Random;
-use solver::{Network, Rule, Sheet};
+use solver::network::includes;
+use solver::{Network, Rule, Set, Sheet};
+use tests::sac2::sac2;
 use tests::shapes::Size;
 use tests::sheets::unequal;
 use tests::taste;
@@ -24,17 +26,17 @@ fn random_job(random: &mut Random, sheet: &Sheet) -> Job {
     Job { start: start(random, job.start), order: random.order(sheet.fields()), ..job }
 }
 
-/// What all engines answer. The tests of SAC-1 do not depend on the way of closing, and the other methods take no more.
-fn solve(sheet: &Sheet, job: &Job) -> Offers {
-    let mut all = engines(sheet.fields(), sheet.reach);
+/// What all engines answer, and the tests of SAC-1 and SAC-2. Those of SAC-1 do not depend on the way of closing. SAC-2 makes no more than
+/// the queue, at any reach, and the queue no more than SAC-1.
+fn solve(sheet: &Sheet, job: &Job) -> (Offers, [u64; 2]) {
+    let mut all = engines(sheet.fields());
     let runs = agree(&mut all, job);
-    let tests = |wanted: &[Role]| -> Vec<u64> {
-        all.iter().zip(&runs).filter(|(contestant, _)| wanted.contains(&contestant.role)).map(|(_, run)| run.tests).collect()
-    };
-    let sac1 = tests(&PLAIN_SAC1);
+    let place = |role: Role| all.iter().position(|contestant| contestant.role == role).expect("a contestant of this role");
+    let tests = |role: Role| runs[place(role)].tests;
+    let (sac1, sac2, queue) = (PLAIN_SAC1.map(tests), tests(Role::Sac2), tests(Role::Queue));
     assert!(sac1.iter().all(|&count| count == sac1[0]), "{sac1:?}: {job:?}");
-    assert!(tests(&[Role::Sac2, Role::Queue]).iter().all(|&count| count <= sac1[0]), "{sac1:?}: {job:?}");
-    runs[0].answer
+    assert!(sac2 <= queue && queue <= sac1[0], "{sac2}, {queue}, {sac1:?}: {job:?}");
+    (runs[0].answer, [sac1[0], sac2])
 }
 
 /// A small sheet with rules of kind 0, of a class where a setting often fails its test though it has support.
@@ -53,7 +55,7 @@ fn agree_with_the_solver() {
         let job = random_job(&mut random, &sheet);
         let network = Network::of(&sheet);
         let expected = network.offers(job.start);
-        let offers = solve(&sheet, &job);
+        let (offers, _) = solve(&sheet, &job);
         assert_eq!(offers, (!network.wiped_out(&expected)).then_some(expected), "{job:?}");
         match offers {
             None => wiped += 1,
@@ -63,6 +65,27 @@ fn agree_with_the_solver() {
     }
     println!("{wiped} wiped out, {narrowed} narrowed, {untouched} untouched");
     assert!(wiped.min(narrowed).min(untouched) > 600, "{wiped} {narrowed} {untouched}");
+}
+
+/// SAC-1 tests a setting in every pass. SAC-2 tests it again just where some of what its last test left in the neighbourhood has gone.
+#[test]
+fn tests_are_counted_as_defined() {
+    let mut random = Random(3);
+    let (mut at_short_reach, mut at_reach_24) = (0, 0);
+    for _ in 0..2000 {
+        let sheet = masked_sheet(&mut random);
+        let job = random_job(&mut random, &sheet);
+        let network = Network::of(&sheet);
+        let every: Vec<usize> = (0..sheet.fields()).collect();
+        let closed = network.closing(job.start, &every);
+        let counted = |trusted: fn(&Set, &Set) -> bool| sac2(&network, closed, &job.order, trusted).1;
+        let (_, tests) = solve(&sheet, &job);
+        assert_eq!(tests, [counted(|_, _| false), counted(includes)], "{job:?}");
+        let saves = if sheet.reach < WHOLE_REACH { &mut at_short_reach } else { &mut at_reach_24 };
+        *saves += usize::from(tests[1] < tests[0]);
+    }
+    println!("SAC-2 saves tests on {at_short_reach} sheets at short reaches and on {at_reach_24} at reach 24");
+    assert!(at_short_reach > 200 && at_reach_24 > 100, "{at_short_reach} {at_reach_24}");
 }
 
 #[test]
@@ -80,7 +103,7 @@ fn agree_on_larger_sheets() {
 }
 
 fn offers_of(sheet: &Sheet) -> Option<Vec<u32>> {
-    solve(sheet, &Job::new(sheet)).map(|set| set[..sheet.fields()].to_vec())
+    solve(sheet, &Job::new(sheet)).0.map(|set| set[..sheet.fields()].to_vec())
 }
 
 #[test]

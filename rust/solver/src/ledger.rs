@@ -152,7 +152,8 @@ impl Ledger {
     }
 }
 
-/// The ledger after a call and its offers, or the number of the refusal. Without a ledger the session is malformed.
+/// The ledger after a call and its offers, or the number of the refusal. Without a ledger the session is malformed. Engine 2 runs at every
+/// reach and 8 is never given: request 2 of 02.
 pub fn judge(held: Option<&Ledger>, call: Call, given: &Arguments) -> Result<(Ledger, Vec<u32>), u32> {
     if given.offers < 24 || given.rows < 13_248 || given.memory < 13_824 {
         return Err(6);
@@ -166,9 +167,6 @@ pub fn judge(held: Option<&Ledger>, call: Call, given: &Arguments) -> Result<(Le
     let off_sheet = call.event().is_some_and(|event| !sheet.has(event.decision().field, event.decision().position));
     if given.engine < 1 || given.engine > 3 || off_sheet {
         return Err(7);
-    }
-    if given.engine == 2 && sheet.reach < 24 {
-        return Err(8);
     }
     if !is_order(given.order, sheet.fields()) {
         return Err(9);

@@ -15,6 +15,11 @@ pub struct Network {
     pub full: Set,
 }
 
+/// Whether a set has every setting of another.
+pub fn includes(set: &Set, part: &Set) -> bool {
+    (0..MOST).all(|f| part[f] & !set[f] == 0)
+}
+
 fn positions(mask: u32) -> impl Iterator<Item = usize> {
     (0..MOST).filter(move |v| mask >> v & 1 == 1)
 }
@@ -92,13 +97,19 @@ impl Network {
         self.largest(set, fields, |set, f, v| self.supported(set, fields, f, v))
     }
 
-    /// The test of a setting in a set.
-    pub fn passes(&self, set: &Set, f: usize, v: usize) -> bool {
+    /// What the test of a setting leaves in the fields of the neighbourhood, with 0 for the other fields; nothing where it fails.
+    pub fn left(&self, set: &Set, f: usize, v: usize) -> Option<Set> {
         let near = &self.neighbourhoods[f];
-        let mut cut = *set;
+        let mut cut = [0; MOST];
+        near.iter().for_each(|&g| cut[g] = set[g]);
         cut[f] &= 1 << v;
         let closed = self.closing(cut, near);
-        near.iter().all(|&g| closed[g] != 0)
+        near.iter().all(|&g| closed[g] != 0).then_some(closed)
+    }
+
+    /// The test of a setting in a set.
+    pub fn passes(&self, set: &Set, f: usize, v: usize) -> bool {
+        self.left(set, f, v).is_some()
     }
 
     /// The largest subset in which every setting passes its test.

@@ -1,6 +1,7 @@
 //! The solver's largest sets against the definitions taken word by word: every subset of a small set is looked at.
 
 use random::Random;
+use solver::network::includes;
 use solver::{Network, Rule, Set, Sheet, MOST};
 
 /// At most five fields and nine settings in all.
@@ -47,7 +48,7 @@ fn subsets(set: &Set) -> impl Iterator<Item = Set> {
 fn largest(set: &Set, has: impl Fn(&Set) -> bool) -> Set {
     let having: Vec<Set> = subsets(set).filter(|subset| has(subset)).collect();
     let best = *having.iter().max_by_key(|subset| settings_of(subset).len()).expect("the empty set has it");
-    assert!(having.iter().all(|subset| (0..MOST).all(|f| subset[f] & !best[f] == 0)));
+    assert!(having.iter().all(|subset| includes(&best, subset)));
     best
 }
 
@@ -78,13 +79,14 @@ fn near(sheet: &Sheet, f: usize) -> Vec<usize> {
     (0..sheet.fields()).filter(|&g| whole || away[g].is_some_and(|step| step <= sheet.reach)).collect()
 }
 
-fn passes(sheet: &Sheet, set: &Set, f: usize, v: usize) -> bool {
+/// What a passed test leaves.
+fn left(sheet: &Sheet, set: &Set, f: usize, v: usize) -> Option<Set> {
     let near = near(sheet, f);
     let mut cut = [0; MOST];
     near.iter().for_each(|&g| cut[g] = set[g]);
     cut[f] = 1 << v;
     let closed = largest(&cut, |subset| closed(sheet, subset, &near));
-    near.iter().all(|&g| closed[g] != 0)
+    near.iter().all(|&g| closed[g] != 0).then_some(closed)
 }
 
 #[test]
@@ -106,9 +108,30 @@ fn tests_are_as_defined() {
         let sheet = small_sheet(&mut random);
         let network = Network::of(&sheet);
         for (f, v) in settings_of(&network.full) {
-            assert_eq!(network.passes(&network.full, f, v), passes(&sheet, &network.full, f, v), "{sheet:?} {f} {v}");
+            assert_eq!(network.left(&network.full, f, v), left(&sheet, &network.full, f, v), "{sheet:?} {f} {v}");
         }
     }
+}
+
+/// Request 2 of 02: in every smaller set that has all that a passed test left, the test passes and leaves just that.
+#[test]
+fn what_a_test_left_is_left_again() {
+    let mut random = Random(4);
+    let (mut kept, mut lost) = (0, 0);
+    for _ in 0..200 {
+        let sheet = small_sheet(&mut random);
+        let network = Network::of(&sheet);
+        for (f, v) in settings_of(&network.full) {
+            let Some(left) = network.left(&network.full, f, v) else { continue };
+            for subset in subsets(&network.full) {
+                let there = includes(&subset, &left);
+                assert!(!there || network.left(&subset, f, v) == Some(left), "{sheet:?} {f} {v} {subset:?}");
+                kept += usize::from(there && subset != network.full);
+                lost += usize::from(!there && !network.passes(&subset, f, v));
+            }
+        }
+    }
+    assert!(kept > 1000 && lost > 1000, "{kept} {lost}");
 }
 
 #[test]

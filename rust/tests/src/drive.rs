@@ -54,13 +54,14 @@ pub fn sequence(maker: Maker, plan: Plan, seed: u64, tally: &mut Tally) -> Resul
         let first = place == 0 && !plan.forging;
         let step = if first { opening(&mut random, &sheet) } else { next(&mut random, &habits, &sheet, &runner.words()) };
         let result = runner.step(&step);
-        let call = if let Step::Call(given) = &step { Some(given.call) } else { None };
         steps.push(step);
         match result {
             Err(differs) => return Err(Failure { case: Case { sheet: given, session, steps }, differs }),
             Ok(None) => (),
             Ok(Some(number)) => {
-                tally.add(call.unwrap(), number);
+                if let Some(Step::Call(call)) = steps.last() {
+                    tally.add(call, &given, number);
+                }
                 if place == 0 && number != 0 && !plan.damaged && random.below(8) > 0 {
                     break;
                 }

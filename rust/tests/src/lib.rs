@@ -12,6 +12,7 @@ pub mod linked;
 pub mod planted;
 pub mod repository;
 pub mod runner;
+pub mod sac2;
 pub mod shapes;
 pub mod sheets;
 pub mod shrink;

@@ -49,8 +49,8 @@ pub enum Fault {
     Swapped,
     /// The order is not read.
     OrderUnread,
-    /// Engine 2 runs at short reaches.
-    Engine2,
+    /// Engine 2 trusts what it remembers although a setting of it has gone.
+    StaleMemory,
     /// A work space is written before its length is judged.
     SpaceTouched,
     /// What a work space held alters the offers.
@@ -85,7 +85,7 @@ impl Fault {
         Fault::EventOnRefusal,
         Fault::Swapped,
         Fault::OrderUnread,
-        Fault::Engine2,
+        Fault::StaleMemory,
         Fault::SpaceTouched,
         Fault::SpaceRead,
         Fault::CountUnread,
@@ -138,7 +138,6 @@ impl Planted {
             (Fault::Swapped, 12 | 13) => 25 - number,
             (Fault::LowerLimit, 0) if wide(given.sheet) => 3,
             (Fault::HigherLimit, 3) => Linked.call(session, call, again(given)),
-            (Fault::Engine2, 8) => Linked.call(session, call, Arguments { engine: 1, ..again(given) }),
             (Fault::OrderUnread, 9) => {
                 let n = reading::sheet(given.sheet).expect("9 comes after the sheet").fields();
                 let order: Vec<u8> = (0..n as u8).collect();

@@ -80,7 +80,7 @@ fn in_force(random: &mut Random, masks: &[u32]) -> Option<(u32, u32)> {
 
 /// The call with a valid engine and order and spaces that are long enough.
 fn valid(random: &mut Random, sheet: &Sheet, call: Call) -> Given {
-    let engine = if sheet.reach == 24 { random.from(1, 3) as u32 } else { random.pick(&[1, 3]) };
+    let engine = random.from(1, 3) as u32;
     let mut longer = |least: usize| least + random.pick(&[0, 0, 0, 0, 0, 1, 8, 5000]);
     let (offers, rows, memory) = (longer(ENOUGH.0), longer(ENOUGH.1), longer(ENOUGH.2));
     let fill = match random.below(8) {

@@ -1,7 +1,8 @@
-//! How often each call gave each number, and which sheets it met.
+//! How often each call gave each number, which sheets it met, and with which engine at which reach calls were accepted.
 
+use crate::case::Given;
 use crate::sheets::widest;
-use solver::{Call, Sheet};
+use solver::{reading, Call, Sheet};
 use std::collections::BTreeSet;
 use std::fmt;
 
@@ -28,6 +29,8 @@ fn place(call: Call) -> usize {
 #[derive(Clone, Debug, Default)]
 pub struct Tally {
     counts: [[u64; 16]; 8],
+    /// The accepted calls, for each engine by the reach of their sheet.
+    pub accepted: [[u64; 24]; 3],
     pub fields: BTreeSet<usize>,
     pub settings: BTreeSet<usize>,
     pub reaches: BTreeSet<u32>,
@@ -37,8 +40,13 @@ pub struct Tally {
 }
 
 impl Tally {
-    pub fn add(&mut self, call: Call, number: u32) {
-        self.counts[place(call)][number as usize] += 1;
+    /// Counts a call on a sheet, which gave this number.
+    pub fn add(&mut self, given: &Given, sheet: &[u8], number: u32) {
+        self.counts[place(given.call)][number as usize] += 1;
+        if number == 0 {
+            let sheet = reading::sheet(given.sheet.as_deref().unwrap_or(sheet)).expect("the call was accepted");
+            self.accepted[given.engine as usize - 1][sheet.reach as usize - 1] += 1;
+        }
     }
 
     pub fn meet(&mut self, sheet: &Sheet) {
@@ -73,6 +81,11 @@ impl fmt::Display for Tally {
         }
         let (fields, settings, reaches) = (self.fields.len(), self.settings.len(), self.reaches.len());
         writeln!(formatter, "{fields} counts of fields, {settings} of settings, {reaches} reaches, {} kinds", self.kinds.len())?;
+        for (engine, accepted) in (1..).zip(&self.accepted) {
+            let (least, whole) = (accepted.iter().min().unwrap(), accepted[23]);
+            let short: u64 = accepted[..23].iter().sum();
+            writeln!(formatter, "engine {engine}: {short} accepted at the reaches below 24, {whole} at 24, at each reach {least} or more")?;
+        }
         let (setting, c) = self.widest;
         write!(formatter, "settings up to {setting}, c up to {c}")
     }

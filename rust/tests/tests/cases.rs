@@ -1,4 +1,4 @@
-//! The worked cases of the scope paper and of the later requests, through the wrapper, with every engine that the reach allows.
+//! The worked cases of the scope paper and of the later requests, through the wrapper, with every engine.
 
 use belaykeel::{Engine, Offers, Order, Refusal, Session, Sheet, WorkSpaces};
 use solver::reading::groups;
@@ -69,15 +69,12 @@ fn triangles_and_rings() {
     let one = Sheet::from_bytes([0x01, 0x01, 0xAC, 0x02, 0x18, 0x00]);
     for engine in Engine::ALL {
         assert_eq!(last(&one, engine, &[Call::Open]), Ok(vec![1]));
-        assert_eq!(last(&unequal(3, 24, &triangle), engine, &[Call::Open]), Err(14));
+        for reach in 1..=24 {
+            let opened = |fields, pairs| last(&unequal(fields, reach, pairs), engine, &[Call::Open]);
+            assert_eq!((opened(3, &triangle), opened(4, &triangle)), (Err(14), Err(14)), "reach {reach}, {engine:?}");
+            assert_eq!(opened(5, &ring), if reach == 1 { Ok(vec![3; 5]) } else { Err(14) }, "reach {reach}, {engine:?}");
+        }
     }
-    for engine in [Engine::Sac1, Engine::Queue] {
-        assert_eq!(last(&unequal(3, 1, &triangle), engine, &[Call::Open]), Err(14));
-        assert_eq!(last(&unequal(4, 1, &triangle), engine, &[Call::Open]), Err(14));
-        assert_eq!(last(&unequal(5, 1, &ring), engine, &[Call::Open]), Ok(vec![3; 5]));
-        assert_eq!(last(&unequal(5, 2, &ring), engine, &[Call::Open]), Err(14));
-    }
-    assert_eq!(last(&unequal(5, 2, &ring), Engine::Sac2, &[Call::Open]), Err(8));
 }
 
 /// Settings and c near 65,536 and near 1,000,000, one rule of a kind with c.

@@ -6,10 +6,12 @@ use tests::linked::Linked;
 use tests::shapes::Size;
 use tests::tally::Tally;
 
-/// Runs this share of all calls, in parts of a thousand.
+/// Runs this share of all calls, in parts of a thousand. None of them gives 8.
 fn share(size: Size, forging: bool, damaged: bool, thousandths: u64) -> Tally {
     let calls = environment("BELAYKEEL_CALLS", 200_000);
-    sequences(&|| Box::new(Linked), Plan { size, forging, damaged }, calls * thousandths / 1000)
+    let tally = sequences(&|| Box::new(Linked), Plan { size, forging, damaged }, calls * thousandths / 1000);
+    assert_eq!(tally.number(8), 0, "{tally}");
+    tally
 }
 
 /// Every number of these was given, and settings and c went up to the largest, where there were calls enough to ask for it.
@@ -23,22 +25,23 @@ fn all_given(tally: &Tally, numbers: &[u32]) {
 #[test]
 fn small_sheets() {
     let tally = share(Size::Small, false, false, 500);
-    all_given(&tally, &[0, 1, 2, 3, 4, 5, 6, 7, 8, 9, 10, 11, 12, 13, 14]);
+    all_given(&tally, &[0, 1, 2, 3, 4, 5, 6, 7, 9, 10, 11, 12, 13, 14]);
 }
 
 #[test]
 fn forged_sessions() {
     let tally = share(Size::Small, true, false, 250);
-    all_given(&tally, &[0, 1, 2, 3, 4, 5, 6, 7, 8, 9, 10, 11, 12, 13, 14, 15]);
+    all_given(&tally, &[0, 1, 2, 3, 4, 5, 6, 7, 9, 10, 11, 12, 13, 14, 15]);
 }
 
 #[test]
 fn long_sheets() {
     let tally = share(Size::Long, false, false, 150);
-    all_given(&tally, &[0, 6, 7, 8, 9, 10, 11, 12, 13, 14]);
-    if tally.calls() >= 10_000 {
+    all_given(&tally, &[0, 6, 7, 9, 10, 11, 12, 13, 14]);
+    if tally.calls() >= 30_000 {
         let counts = (tally.fields.len(), tally.settings.len(), tally.reaches.len(), tally.kinds.len());
         assert_eq!(counts, (24, 24, 24, 6), "{tally}");
+        assert!(tally.accepted.iter().flatten().all(|&count| count > 0), "{tally}");
     }
 }
 

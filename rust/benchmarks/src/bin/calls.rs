@@ -4,7 +4,7 @@
 use belaykeel::Engine;
 use benchmarks::contestants::{libraries, Left};
 use benchmarks::measure::{self, median};
-use benchmarks::report::{apart, heading, row, share, Effort};
+use benchmarks::report::{apart, heading, print_apart, row, share, Effort};
 use benchmarks::role::{Role, PLAIN, PLAIN_SAC1};
 use benchmarks::sheets::{growing, Class, Series, Source, HARDEST, PAGES, REACHES};
 use benchmarks::task::{Chosen, Task, CALLS};
@@ -35,8 +35,8 @@ fn measure(all: &[Chosen], wanted: &[u32], effort: Effort) -> Vec<Line> {
     let mut lines = vec![];
     for chosen in all {
         let series = chosen.series;
+        let mut libraries = libraries(series.source.fields());
         for &reach in series.reaches.iter().filter(|reach| wanted.contains(reach)) {
-            let mut libraries = libraries(series.source.fields(), reach);
             for call in 0..CALLS.len() {
                 let tasks = chosen.tasks(call, reach);
                 let measured = Measured::new(&mut libraries, &tasks, effort.budget);
@@ -56,7 +56,7 @@ fn offered(task: &Task, left: &Left) -> f64 {
 
 /// The median over the sheets of an engine's time over that of the fastest plain SAC-1.
 fn ratio(measured: &Measured, engine: Engine) -> String {
-    measured.find(&[Role::Proved(engine)]).map_or("–".into(), |column| format!("{:.2}", column.over(measured.fastest(&PLAIN_SAC1))))
+    format!("{:.2}", measured.column(Role::Proved(engine)).over(measured.fastest(&PLAIN_SAC1)))
 }
 
 /// The cells about times: the fastest plain SAC-1, and the engines to it.
@@ -64,7 +64,7 @@ fn cells(measured: &Measured) -> Vec<String> {
     let plain = measured.fastest(&PLAIN_SAC1);
     let mut cells = vec![plain.role.to_string(), format!("{:.1}", plain.median())];
     cells.extend(Engine::ALL.map(|engine| ratio(measured, engine)));
-    cells.push(format!("{:.2}", measured.fastest(&[ENGINE_1]).over(measured.fastest(&PLAIN))));
+    cells.push(format!("{:.2}", measured.column(ENGINE_1).over(measured.fastest(&PLAIN))));
     cells
 }
 
@@ -80,7 +80,7 @@ fn print_lines(lines: &[Line]) {
     println!("\nMedian over all sheets and calls at reach 24, to the fastest plain SAC-1 of the row:\n");
     for engine in Engine::ALL {
         let at_24 = lines.iter().filter(|line| line.reach == WHOLE_REACH).map(|line| &line.measured);
-        let all: Vec<f64> = at_24.flat_map(|m| m.fastest(&[Role::Proved(engine)]).ratios(m.fastest(&PLAIN_SAC1))).collect();
+        let all: Vec<f64> = at_24.flat_map(|m| m.column(Role::Proved(engine)).ratios(m.fastest(&PLAIN_SAC1))).collect();
         println!("- engine {}: {:.2} ({} calls).", engine.number(), median(&all), all.len());
     }
 }
@@ -92,7 +92,7 @@ fn print_wiped_out(effort: Effort) {
         let source = Source::Random(Class::largest(1.0, tightness));
         let sheets = (first_seed..).take(effort.sheets).map(|seed| source.sheet(seed));
         let tasks: Vec<Task> = sheets.map(|sheet| Task { number: 14, ..Task::open(&sheet) }).collect();
-        let measured = Measured::new(&mut libraries(source.fields(), WHOLE_REACH), &tasks, effort.budget);
+        let measured = Measured::new(&mut libraries(source.fields()), &tasks, effort.budget);
         row(&[&[source.label(), "24".into(), "open, refused with 14".into()][..], &cells(&measured)].concat());
     }
 }
@@ -107,14 +107,14 @@ struct Parts {
 
 impl Parts {
     fn new(fields: usize, opens: &[Task], effort: Effort) -> Parts {
-        let mut libraries = libraries(fields, WHOLE_REACH);
+        let mut libraries = libraries(fields);
         let mut measured = |change: fn(&Task) -> Task| {
             let tasks: Vec<Task> = opens.iter().map(change).collect();
             Measured::new(&mut libraries, &tasks, effort.budget)
         };
         let (read, tables, open) = (measured(Task::without_order), measured(Task::with_two_choices), measured(Task::clone));
         let parts = |role: Role| {
-            let [read, tables, open] = [&read, &tables, &open].map(|measured| measured.fastest(&[role]).median());
+            let [read, tables, open] = [&read, &tables, &open].map(|measured| measured.column(role).median());
             [read, tables - read, open - tables]
         };
         let (engine_1, plain) = (parts(ENGINE_1), parts(open.fastest(&PLAIN_SAC1).role));
@@ -165,18 +165,13 @@ fn print_noise(first: &[&Line], second: &[Line]) {
         let name = |who: &str| format!("{who}, {}, {}", CALLS[first.call], first.series.source.label());
         times.push((apart(pair.map(|measured| measured.fastest(&PLAIN_SAC1).median())), name("plain")));
         for role in Engine::ALL.map(Role::Proved) {
-            let columns = pair.map(|measured| (measured.fastest(&[role]), measured.fastest(&PLAIN_SAC1)));
+            let columns = pair.map(|measured| (measured.column(role), measured.fastest(&PLAIN_SAC1)));
             times.push((apart(columns.map(|(column, _)| column.median())), name(&role.to_string())));
             against.push((apart(columns.map(|(column, plain)| column.over(plain))), name(&role.to_string())));
         }
     }
-    for (what, mut list) in [("times", times), ("ratios", against)] {
-        list.sort_by(|a, b| a.0.total_cmp(&b.0));
-        let (count, (largest, name)) = (list.len(), &list[list.len() - 1]);
-        let [middle, most] = [count / 2, count * 9 / 10].map(|place| list[place].0);
-        let others = format!("nine in ten by up to {most:.0} %, half by up to {middle:.0} %");
-        println!("- {count} medians of {what} differ by up to {largest:.0} % ({name}), {others}.");
-    }
+    print_apart("medians of times", times);
+    print_apart("medians of ratios", against);
 }
 
 fn main() {

@@ -6,20 +6,12 @@ use benchmarks::contestants::engines;
 use benchmarks::measure::{self, median, Column};
 use benchmarks::report::{apart, heading, row, share, Effort};
 use benchmarks::role::{Role, ONE_BY_ONE, PLAIN_SAC1};
-use benchmarks::sheets::{growing, Class, REACHES};
+use benchmarks::sheets::{growing, random_classes, Class, Densities, LARGE, REACHES, SMALL};
 use benchmarks::task::Job;
 use benchmarks::{Offers, WHOLE_REACH};
 use std::time::Instant;
 
-/// Densities, each with tightnesses around the one where sheets begin to be wiped out.
-type Densities = [(f64, [f64; 4])];
-
-const LARGE: &Densities = &[(0.2, [0.5, 0.6, 0.7, 0.72]), (0.5, [0.5, 0.58, 0.6, 0.7]), (1.0, [0.5, 0.52, 0.6, 0.7])];
-const SMALL: &Densities = &[(0.5, [0.3, 0.4, 0.5, 0.6]), (1.0, [0.2, 0.3, 0.4, 0.5])];
-
 const ENGINE_1: Role = Role::Proved(Engine::Sac1);
-const ENGINE_2: Role = Role::Proved(Engine::Sac2);
-const ENGINE_3: Role = Role::Proved(Engine::Queue);
 
 /// The sheets of a class, measured.
 struct Measured {
@@ -36,7 +28,7 @@ impl Measured {
     fn new(class: Class, first_seed: u64, effort: Effort, change: fn(&mut Job)) -> Measured {
         let mut jobs: Vec<Job> = (first_seed..).take(effort.sheets).map(|seed| Job::new(&class.sheet(seed))).collect();
         jobs.iter_mut().for_each(change);
-        let all = measure::Measured::new(&mut engines(class.fields, class.reach), &jobs, effort.budget);
+        let all = measure::Measured::new(&mut engines(class.fields), &jobs, effort.budget);
         let wiped = all.answers.iter().filter(|offers| offers.is_none()).count();
         let offered = |offers: &Offers| share(&offers.unwrap_or_default(), class.fields * class.settings);
         Measured { class, first_seed, wiped, offered: all.answers.iter().map(offered).collect(), all }
@@ -46,8 +38,8 @@ impl Measured {
         self.all.fastest(roles)
     }
 
-    fn column(&self, role: Role) -> Option<&Column> {
-        self.all.find(&[role])
+    fn column(&self, role: Role) -> &Column {
+        self.all.column(role)
     }
 }
 
@@ -57,19 +49,18 @@ fn measure(class: Class, first_seed: u64, effort: Effort) -> Measured {
 
 /// Measures sheets of all densities and tightnesses; those of different reaches are otherwise the same.
 fn measure_all(fields: usize, settings: usize, densities: &Densities, reaches: &[u32], effort: Effort) -> Vec<Measured> {
-    let tightened = densities.iter().flat_map(|&(density, list)| list.map(|tightness| (density, tightness)));
     let mut all = vec![];
-    for ((density, tightness), thousands) in tightened.zip(1..) {
+    for (class, first_seed) in random_classes(fields, settings, densities) {
         for &reach in reaches {
-            all.push(measure(Class { fields, settings, density, tightness, reach }, 1000 * thousands, effort));
+            all.push(measure(Class { reach, ..class }, first_seed, effort));
         }
     }
     all
 }
 
-/// The median over the sheets of one time over the other; a dash where the first is not there.
-fn over(column: Option<&Column>, under: &Column) -> String {
-    column.map_or("–".into(), |column| format!("{:.2}", column.over(under)))
+/// The median over the sheets of one time over the other.
+fn over(column: &Column, under: &Column) -> String {
+    format!("{:.2}", column.over(under))
 }
 
 fn label(class: &Class) -> String {
@@ -92,10 +83,10 @@ fn print_ratios(all: &[Measured]) {
             fastest.role.to_string(),
             format!("{:.1}", fastest.median()),
             over(measured.column(ENGINE_1), fastest),
-            over(measured.column(ENGINE_2), fastest),
-            over(measured.column(ENGINE_3), fastest),
+            over(measured.column(Role::Proved(Engine::Sac2)), fastest),
+            over(measured.column(Role::Proved(Engine::Queue)), fastest),
             over(measured.column(ENGINE_1), measured.fastest(&ONE_BY_ONE)),
-            over(measured.column(ENGINE_1), measured.fastest(&[Role::Branching])),
+            over(measured.column(ENGINE_1), measured.column(Role::Branching)),
         ]);
     }
 }
@@ -104,7 +95,7 @@ fn print_ratios(all: &[Measured]) {
 fn print_summary(all: &[Measured]) {
     let against = |roles: &[Role]| -> Vec<f64> {
         let at_24 = all.iter().filter(|measured| measured.class.reach == WHOLE_REACH);
-        at_24.flat_map(|measured| measured.fastest(&[ENGINE_1]).ratios(measured.fastest(roles))).collect()
+        at_24.flat_map(|measured| measured.column(ENGINE_1).ratios(measured.fastest(roles))).collect()
     };
     println!("\nEngine 1 at reach 24, median of {} sheets:\n", against(&PLAIN_SAC1).len());
     println!("- {:.2} of the fastest plain SAC-1 of the class;", median(&against(&PLAIN_SAC1)));
@@ -122,45 +113,15 @@ fn print_closings(all: &[Measured]) {
     }
 }
 
-/// What SAC-2 and the queue save: tests and plain times against plain SAC-1 with the same closing, proved times against engine 1.
-fn print_savings(all: &[Measured]) {
-    let tests = ["tests of SAC-1", "tests of SAC-2", "tests of the queue"];
-    let times = ["plain SAC-2 time", "plain queue time", "engine 2 time", "engine 3 time"];
-    heading(&[&["fields", "density", "tightness", "reach"][..], &tests, &times].concat());
-    for measured in all {
-        let sac1 = measured.fastest(&[Role::AtOnce]);
-        let engine_1 = measured.fastest(&[ENGINE_1]);
-        let others = [Role::Sac2, Role::Queue].map(|role| measured.column(role));
-        if others.iter().flatten().all(|column| column.tests == sac1.tests) {
-            continue;
-        }
-        let [sac2_tests, queue_tests] = others.map(|column| match column {
-            Some(column) => format!("{:.2}", column.tests.iter().sum::<f64>() / sac1.tests.iter().sum::<f64>()),
-            None => "–".into(),
-        });
-        row(&[
-            measured.class.fields.to_string(),
-            label(&measured.class),
-            format!("{:.0}", median(&sac1.tests)),
-            sac2_tests,
-            queue_tests,
-            over(others[0], sac1),
-            over(others[1], sac1),
-            over(measured.column(ENGINE_2), engine_1),
-            over(measured.column(ENGINE_3), engine_1),
-        ]);
-    }
-}
-
 /// The tables alone: one field of the start set is empty, so that an engine stops as soon as its tables are built.
 fn print_tables(effort: Effort) {
     heading(&["fields", "settings", "density", "engine 1, µs", "fastest plain, µs", "ratio"]);
     for (fields, settings, density) in [(24, 24, 0.2), (24, 24, 0.5), (24, 24, 1.0), (8, 6, 0.5), (8, 6, 1.0)] {
         let class = Class { fields, settings, density, tightness: 0.5, reach: WHOLE_REACH };
         let measured = Measured::new(class, 1, effort, |job| job.start[0] = 0);
-        let (engine_1, fastest) = (measured.fastest(&[ENGINE_1]), measured.fastest(&PLAIN_SAC1));
+        let (engine_1, fastest) = (measured.column(ENGINE_1), measured.fastest(&PLAIN_SAC1));
         let times = [engine_1, fastest].map(|column| format!("{:.2}", column.median()));
-        row(&[format!("{fields} | {settings} | {density}"), times.join(" | "), over(Some(engine_1), fastest)]);
+        row(&[format!("{fields} | {settings} | {density}"), times.join(" | "), over(engine_1, fastest)]);
     }
 }
 
@@ -177,7 +138,7 @@ fn print_growth(title: &str, classes: &[Class], effort: Effort) {
             class.density.to_string(),
             format!("{} of {}", measured.wiped, measured.offered.len()),
             format!("{:.0}", median(&fastest.tests)),
-            format!("{:.1}", measured.fastest(&[ENGINE_1]).median()),
+            format!("{:.1}", measured.column(ENGINE_1).median()),
             format!("{:.1}", fastest.median()),
         ]);
     }
@@ -188,7 +149,7 @@ fn print_noise(first: &[&Measured], second: &[Measured]) {
     heading(&["fields", "density", "tightness", "reach", "engine 1, µs", "again", "engine 1 to the fastest plain", "again"]);
     let (mut worst_time, mut worst_ratio) = (0.0, 0.0);
     for (first, second) in first.iter().zip(second) {
-        let [a, b] = [first, second].map(|m| m.fastest(&[ENGINE_1]));
+        let [a, b] = [first, second].map(|m| m.column(ENGINE_1));
         let times = [a, b].map(Column::median);
         let against = [a.over(first.fastest(&PLAIN_SAC1)), b.over(second.fastest(&PLAIN_SAC1))];
         worst_time = apart(times).max(worst_time);
@@ -212,9 +173,7 @@ fn main() {
     print_ratios(&all_small);
     print_summary(&all_small);
     print_closings(&all_small);
-    println!("\n## What SAC-2 and the queue save");
     all.extend(all_small);
-    print_savings(&all);
     println!("\n## The tables alone");
     print_tables(growth);
     println!("\n## Growth of engine 1 at reach 24, tightness 0.1");

@@ -5,6 +5,7 @@ use benchmarks::measure::{median, timed};
 use benchmarks::plain::reading;
 use benchmarks::report::{heading, row, Effort};
 use benchmarks::sheets::{HARDEST, PAGES};
+use benchmarks::WHOLE_REACH;
 use solver::reading::groups;
 use solver::Sheet;
 use std::hint::black_box;
@@ -79,8 +80,8 @@ fn without_kind_2(mut sheet: Sheet) -> Sheet {
 fn lists(effort: Effort, made: fn(Sheet) -> Sheet) -> Vec<(String, Vec<Vec<u32>>)> {
     let mut all = vec![("largest".to_string(), vec![largest()])];
     for series in PAGES.iter().chain(&HARDEST) {
-        let seeds = series.first_seed..series.first_seed + effort.sheets as u64;
-        all.push((series.source.label(), seeds.map(|seed| numbers(&made(series.source.sheet(seed)))).collect()));
+        let sheets = series.sheets(effort.sheets, WHOLE_REACH).into_iter();
+        all.push((series.source.label(), sheets.map(|sheet| numbers(&made(sheet))).collect()));
     }
     all
 }

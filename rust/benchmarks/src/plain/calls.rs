@@ -3,7 +3,7 @@
 use super::reading::{read_at_once, Outline};
 use super::Method;
 use crate::task::Job;
-use crate::{Domains, MOST, WHOLE_REACH};
+use crate::{Domains, MOST};
 use belaykeel::raw::{Arguments, MEMORY_WORDS, OFFERS_WORDS, ROWS_WORDS, SHEET_NUMBERS};
 use belaykeel::{Event, Session, EVENTS};
 use solver::Call;
@@ -32,9 +32,6 @@ impl Plain {
         let event = event(call);
         if given.engine < 1 || given.engine > 3 || event.is_some_and(|event| !on_sheet(&sheet, &event)) {
             return Err(7);
-        }
-        if given.engine == 2 && sheet.reach < WHOLE_REACH {
-            return Err(8);
         }
         if !is_order(given.order, sheet.fields) {
             return Err(9);

@@ -1,6 +1,6 @@
 //! The three methods over any way of closing.
 
-use super::closing::Closing;
+use super::closing::{Closing, BITS};
 use super::network::{members, Network};
 use super::Found;
 use crate::task::Job;
@@ -13,7 +13,7 @@ pub struct Solver<C> {
     closing: C,
 }
 
-/// For each setting what its last passed test left; the settings of a field stand together.
+/// For each setting what its last passed test left in the neighbourhood; the settings of a field stand together.
 pub type Memory = Box<[[Domains; MOST]; MOST]>;
 
 impl<C: Closing> Solver<C> {
@@ -29,7 +29,7 @@ impl<C: Closing> Solver<C> {
         Found { offers, tests }
     }
 
-    /// SAC-2, at reach 24: a setting is tested again only when the set has lost some of what its last test left.
+    /// SAC-2: a setting is tested again only when the set has lost some of what its last test left in the neighbourhood.
     pub fn sac2(&mut self, memory: &mut Memory, job: &Job) -> Found {
         let mut tests = 0;
         let mut known = [0; MOST];
@@ -41,7 +41,7 @@ impl<C: Closing> Solver<C> {
                 tests += 1;
                 let left = self.test(domains, f, v);
                 if let Some(left) = left {
-                    memory[f][v] = left;
+                    memory[f][v] = part(&left, self.network.hood[f]);
                     known[f] |= 1 << v;
                 }
                 left.is_some()
@@ -127,6 +127,11 @@ impl<C: Closing> Solver<C> {
         let touched = self.closing.close(&self.network, domains, self.network.all(), 1 << f)?;
         Some(touched | 1 << f)
     }
+}
+
+/// The settings of some fields, with 0 for the other fields.
+fn part(domains: &Domains, fields: u32) -> Domains {
+    std::array::from_fn(|f| if fields & BITS[f] != 0 { domains[f] } else { 0 })
 }
 
 /// Whether the set has every setting of a part.

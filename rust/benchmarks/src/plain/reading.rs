@@ -9,7 +9,6 @@ pub struct Outline {
     pub fields: usize,
     /// For each field the mask of its settings; zeros past the last field.
     pub full: Domains,
-    pub reach: u32,
 }
 
 /// Where the numbers of a sheet come from.
@@ -156,11 +155,11 @@ impl<S: Source, E: FnMut(u32)> Grammar<S, E> {
 
     fn sheet(&mut self) -> Result<Outline, u32> {
         let fields = self.take(1, MOST as u32)? as usize;
-        let mut outline = Outline { fields, full: [0; MOST], reach: 0 };
+        let mut outline = Outline { fields, full: [0; MOST] };
         for full in &mut outline.full[..fields] {
             *full = self.settings()?;
         }
-        outline.reach = self.take(1, WHOLE_REACH)?;
+        self.take(1, WHOLE_REACH)?;
         let mut least = 0;
         for _ in 0..self.take(0, 276)? {
             least = self.rule(&outline, least)?;

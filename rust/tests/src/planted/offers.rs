@@ -2,6 +2,7 @@
 
 use super::{Fault, Planted};
 use crate::linked::words;
+use crate::sac2::sac2;
 use belaykeel::raw::Arguments;
 use belaykeel::Session;
 use solver::session::ledger;
@@ -20,6 +21,7 @@ impl Planted {
             Fault::OnlyCloses | Fault::OnePass | Fault::ShortReach => self.weaken(session, &sheet, given),
             Fault::Wraps(_) | Fault::Tolerance(_) | Fault::OnlyAbove | Fault::StopsAtZero => self.weaken(session, &sheet, given),
             Fault::ShortQueue if given.engine == 3 => self.weaken(session, &sheet, given),
+            Fault::StaleMemory if given.engine == 2 => self.weaken(session, &sheet, given),
             _ => (),
         }
         self.shown = given.offers[..n].to_vec();
@@ -58,6 +60,7 @@ impl Planted {
             Fault::OnlyCloses => start,
             Fault::OnePass => one_pass(&network, start),
             Fault::ShortQueue => short_queue(&network, start, given.order),
+            Fault::StaleMemory => sac2(&network, start, given.order, |_, _| true).0,
             _ => network.offers(start),
         };
         given.offers[..sheet.fields()].copy_from_slice(&offers[..sheet.fields()]);

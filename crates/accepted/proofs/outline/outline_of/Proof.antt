@@ -6,19 +6,16 @@ use Rattle.accepted.proofs.outline.outline_of.Statement.{statement}
 use Rattle.accepted.proofs.outline.outline_of.Tie as tie
 
 abbrev Inv-loop : tie.InvT-loop
-Inv-loop numbers fields reach full₀ f₀ full f = Outlining numbers fields f full
+Inv-loop numbers fields full₀ f₀ full f = Outlining numbers fields f full
 
 abbrev μ-loop : tie.MeasureT-loop
-μ-loop numbers fields reach full₀ f₀ full f = fields - f
+μ-loop numbers fields full₀ f₀ full f = fields - f
 
 fields-requires : tie.Need-fields-requires Inv-loop μ-loop
 fields-requires c κs = c .before .pre
 
-reach-requires : tie.Need-reach-requires Inv-loop μ-loop
-reach-requires c κs = c .before .before .pre
-
 loop-holds : tie.Need-loop-holds Inv-loop μ-loop
-loop-holds c = outlining-first _ _ (c .before .before .before .pre) (c .before .fields .ensures)
+loop-holds c = outlining-first _ _ (c .before .before .pre) (c .fields .ensures)
 
 count-requires : tie.Need-count-requires Inv-loop μ-loop
 count-requires c κs =
@@ -49,7 +46,7 @@ loop-again c =
     (c .positions .ensures)
 
 returns : tie.Need-returns Inv-loop μ-loop
-returns c = outlining-last _ _ _ _ _ (c .before .loop .inv) (c .loop-test .left) (c .before .before .reach .ensures)
+returns c = outlining-last _ _ _ _ (c .before .loop .inv) (c .loop-test .left)
 
 pub outline-of-spec : {M : Type 1} → statement M
 outline-of-spec =
@@ -58,7 +55,6 @@ outline-of-spec =
     Inv-loop
     μ-loop
     fields-requires
-    reach-requires
     loop-holds
     count-requires
     positions-requires

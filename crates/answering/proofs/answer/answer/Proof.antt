@@ -21,7 +21,7 @@ use borrow.Author.Needs.{needs}
 use Rattle.answering.proofs.answer.answer.Statement.{statement}
 use Rattle.answering.proofs.answer.answer.Tie as tie
 
--- ---- the places of the function, from a later one back: where it starts, 6 has been passed, 1 to 5 have, and 15 and 7 to 13 have
+-- ---- the places of the function, from a later one back: where it starts, 6 has been passed, 1 to 5 have, and 15, 7 and 9 to 13 have
 abbrev start : tie.Else1 → tie.Start
 start c = c .before .before .before .before .before .before .before
 
@@ -67,7 +67,7 @@ unrefused c = sym (taken c .number) ∙ c .if2 .left
 front-accepted : (c : tie.Else2) → let r = taking c .take-in in Accepted (take (r .result .length) (r .last .1 .0))
 front-accepted c = rw (taken c .front (c .if2 .left)) (bytes-accepted (sheet c) (unrefused c))
 
--- ---- the cause among 15 and 7 to 13
+-- ---- the cause among 15, 7 and 9 to 13
 abbrev causes : tie.Else2 → List Cause
 causes x =
     let s = start (roomed x) in

@@ -19,7 +19,7 @@ use Rattle.engines.proofs.queue.queued.Tie as tie
 abbrev Inv-loop : tie.InvT-loop
 Inv-loop m₀ memory₀ order net forward turned known₀ queue₀ m memory known queue =
     Turning (problemIn net forward turned) order (net .hood) m₀ queue m
-    × Store (problemIn net forward turned) (net .hood) known memory × (length memory ≡ length memory₀)
+    × Store (problemIn net forward turned) (net .hood) m known memory × (length memory ≡ length memory₀)
 
 abbrev μ-loop : tie.MeasureT-loop
 μ-loop m₀ memory₀ order net forward turned known₀ queue₀ m memory known queue = count m * 2 ^ mostFields + queue
@@ -38,7 +38,7 @@ unfolding allFields problemOf
 loop-holds c =
     let begun = c .before .before in (
       rw (c .all-fields .ensures) (turning-start _ _ _ _ (begun .begin .ensures .live (c .before .if1 .left))),
-      store-start _ _ _ (begun .before .before .before .before .before .before .pre .1),
+      store-start _ _ _ _ (begun .before .before .before .before .before .before .pre .1),
       refl,
     )
 
@@ -76,7 +76,7 @@ loop-again c =
     let round = c .before .before .before in
     let i = round .before .before .before .before .before .loop .inv in (
       turning-turn _ _ _ _ _ _ _ _ (i .0) (rw (c .if2 .left) at (round .round .ensures .0)),
-      round .round .ensures .1,
+      round .round .ensures .1 (c .if2 .left),
       round .round .kept .1 .1 .0 ∙ i .2,
     )
 

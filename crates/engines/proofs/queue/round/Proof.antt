@@ -1,5 +1,6 @@
 -- `round` visits the fields on the queue.
 use mathlib.Core.Path.{_≡_, refl, _∙_}
+use mathlib.Core.Bool.{true≢false}
 use Prim.Native.Nat.{ℕ, _≤_, _-_}
 use borrow.Author.Needs.{needs}
 use lib.ListN.{length}
@@ -16,7 +17,7 @@ use Rattle.engines.proofs.queue.round.Tie as tie
 abbrev Inv-loop : tie.InvT-loop
 Inv-loop m₀ known₀ memory₀ waiting order net forward turned n queue₀ q₀ m known memory queue q =
     (q ≤ n) × ((touched : ℕ) × Waiting (problemIn net forward turned) order (net .hood) m₀ waiting q queue touched m)
-    × Store (problemIn net forward turned) (net .hood) known memory × (length memory ≡ length memory₀)
+    × Store (problemIn net forward turned) (net .hood) m known memory × (length memory ≡ length memory₀)
 
 abbrev μ-loop : tie.MeasureT-loop
 μ-loop m₀ known₀ memory₀ waiting order net forward turned n queue₀ q₀ m known memory queue q = n - q
@@ -60,7 +61,7 @@ returns c =
     let p = loop .before .before .before .before .before .pre in
     let low = visit-asks _ _ _ _ _ _ (p .1 .0) (p .0 .0 .wired .few) _ (field .before .loop-test .taken) .0 in
     let visited = rw (field .field-at .ensures .0) at (visit .visit .ensures .0) in
-    (waiting-none _ _ _ _ _ _ _ _ _ (loop .loop .inv .1 .1) low _ _ _ visited (c .if2 .taken) _, visit .visit .ensures .1)
+    (waiting-none _ _ _ _ _ _ _ _ _ (loop .loop .inv .1 .1) low _ _ _ visited (c .if2 .taken) _, λ e. absurd (true≢false e))
 
 clear-bit-requires : tie.Need-clear-bit-requires Inv-loop μ-loop
 clear-bit-requires c κs = search needs
@@ -95,7 +96,7 @@ loop-again c =
         waiting-turn _ _ _ _ _ _ _ _ _ (loop .loop .inv .1 .1) low _ _ _ visited (c .before .before .if2 .left) (p .0 .0 .wired .few)
             (p .1 .0 .hoods) _ _ back,
       ),
-      visit .visit .ensures .1,
+      visit .visit .ensures .1 (c .before .before .if2 .left),
       visit .visit .kept .1 .1 .0 ∙ loop .loop .inv .3,
     )
 
@@ -116,7 +117,7 @@ unfolding problemOf
 returns-2 c =
     let loop = c .before in
     let p = loop .before .before .before .before .before .pre in
-    (waiting-end _ _ _ _ _ _ _ _ _ (p .1 .0 .visits) (c .loop-test .left) (loop .loop .inv .1 .1), loop .loop .inv .2)
+    (waiting-end _ _ _ _ _ _ _ _ _ (p .1 .0 .visits) (c .loop-test .left) (loop .loop .inv .1 .1), λ _. loop .loop .inv .2)
 
 pub round-spec : {M : Type 1} → statement M
 round-spec =

@@ -1,5 +1,6 @@
 -- `pass` visits the fields in the lent order.
 use mathlib.Core.Path.{_≡_, refl, _∙_}
+use mathlib.Core.Bool.{true≢false}
 use Prim.Native.Nat.{_≤_, _-_}
 use borrow.Author.Needs.{needs}
 use lib.ListN.{length}
@@ -14,7 +15,7 @@ use Rattle.engines.proofs.sac.pass.Tie as tie
 abbrev Inv-loop : tie.InvT-loop
 Inv-loop m₀ known₀ memory₀ remembers order net forward turned n touched₀ q₀ m known memory touched q =
     (q ≤ n) × Passing (problemIn net forward turned) order (net .hood) m₀ q touched m
-    × Store (problemIn net forward turned) (net .hood) known memory × (length memory ≡ length memory₀)
+    × Store (problemIn net forward turned) (net .hood) m known memory × (length memory ≡ length memory₀)
 
 abbrev μ-loop : tie.MeasureT-loop
 μ-loop m₀ known₀ memory₀ remembers order net forward turned n touched₀ q₀ m known memory touched q = n - q
@@ -53,7 +54,7 @@ returns c =
     let s = loop .before .before .before .before .before in
     let low = visit-asks _ _ _ _ _ _ (s .pre .1) (s .pre .0 .0 .wired .few) _ (field .before .loop-test .taken) .0 in
     let visited = rw (field .field-at .ensures .0) at (visit .visit .ensures .0) in
-    (passing-none _ _ _ _ _ _ _ (loop .loop .inv .1) low _ _ _ visited (c .if1 .taken) _, visit .visit .ensures .1)
+    (passing-none _ _ _ _ _ _ _ (loop .loop .inv .1) low _ _ _ visited (c .if1 .taken) _, λ e. absurd (true≢false e))
 
 loop-less : tie.Need-loop-less Inv-loop μ-loop
 loop-less c = search needs
@@ -69,7 +70,7 @@ loop-again c =
     let visited = rw (field .field-at .ensures .0) at (visit .visit .ensures .0) in (
       search needs,
       passing-turn _ _ _ _ _ _ _ (loop .loop .inv .1) low _ _ _ visited (c .before .if1 .left),
-      visit .visit .ensures .1,
+      visit .visit .ensures .1 (c .before .if1 .left),
       visit .visit .kept .1 .1 .0 ∙ loop .loop .inv .3,
     )
 
@@ -81,7 +82,7 @@ unfolding problemOf
 returns-2 c =
     let loop = c .before in
     let p = loop .before .before .before .before .before .pre in
-    (passing-end _ _ _ _ _ _ _ (p .1 .visits) (c .loop-test .left) (loop .loop .inv .1), loop .loop .inv .2)
+    (passing-end _ _ _ _ _ _ _ (p .1 .visits) (c .loop-test .left) (loop .loop .inv .1), λ _. loop .loop .inv .2)
 
 pub pass-spec : {M : Type 1} → statement M
 pass-spec =

@@ -14,7 +14,7 @@ use Rattle.engines.proofs.sac.sac.Tie as tie
 abbrev Inv-loop : tie.InvT-loop
 Inv-loop m₀ memory₀ remembers order net forward turned known₀ m memory known =
     ((touched : ℕ) × Kept (problemIn net forward turned) (net .hood) m₀ touched m)
-    × Store (problemIn net forward turned) (net .hood) known memory × (length memory ≡ length memory₀)
+    × Store (problemIn net forward turned) (net .hood) m known memory × (length memory ≡ length memory₀)
 
 abbrev μ-loop : tie.MeasureT-loop
 μ-loop m₀ memory₀ remembers order net forward turned known₀ m memory known = count m
@@ -29,7 +29,7 @@ loop-holds : tie.Need-loop-holds Inv-loop μ-loop
 loop-holds c =
     let begun = c .before in
     let p = begun .before .before .before .before .before .before .pre in
-    ((0, kept-start _ _ _ (begun .begin .ensures .live (c .if1 .left))), store-start _ _ _ (p .1), refl)
+    ((0, kept-start _ _ _ (begun .begin .ensures .live (c .if1 .left))), store-start _ _ _ _ (p .1), refl)
 
 pass-requires : tie.Need-pass-requires Inv-loop μ-loop
 pass-requires c κs =
@@ -74,7 +74,7 @@ loop-again c =
     let pass = c .before .before .before .before .before in
     let i = pass .before .before .before .before .loop .inv in (
       (_, kept-then _ (i .0 .1) (pass .pass .ensures .0 .kept (c .before .before .if2 .left))),
-      pass .pass .ensures .1,
+      pass .pass .ensures .1 (c .before .before .if2 .left),
       pass .pass .kept .1 .1 .0 ∙ i .2,
     )
 

@@ -1,13 +1,15 @@
 -- `check` trusts what is remembered while the set holds all of it, and else tests.
-use mathlib.Core.Path.{sym, _∙_}
+use mathlib.Core.Path.{sym, ap, _∙_}
+use mathlib.Core.Bool.{true≢false}
 use Prim.Native.Nat.{_<_}
 use native.Mathlib.Omega.{arith}
 use borrow.Author.Needs.{needs}
 use borrow.Author.Tests.{not-true, not-false}
 use Rattle.limits.specs.Limits.{mostFields, mostSettings}
-use Rattle.masks.specs.Sets.{has}
-use Rattle.closing.specs.Asks.{place-bound, cut-asks}
-use Rattle.visiting.specs.Store.{memory-bound, shows-passes, left-shows, store-add}
+use Rattle.masks.specs.Tests.{never}
+use Rattle.masks.specs.Restrict.{restrict, length-restrict}
+use Rattle.closing.specs.Asks.{place-bound, cut-asks, tested-masks}
+use Rattle.visiting.specs.Store.{remembered-passes, remembered-now, known-added, memory-same, store-add}
 use Rattle.visiting.proofs.store.check.Statement.{statement}
 use Rattle.visiting.proofs.store.check.Tie as tie
 
@@ -15,141 +17,127 @@ use Rattle.visiting.proofs.store.check.Tie as tie
 placed : (s : tie.Start) → (s .args .f < mostFields) × (s .args .v < mostSettings)
 placed s = let l = place-bound _ _ _ _ _ (s .pre .0 .0) _ _ (s .pre .1 .1) in (l .1, l .2)
 
-mul-within : tie.Need-mul-within
-mul-within c = let l = placed (c .before .before .before) .0 in omega arith
-
-element-copy-out-within : tie.Need-element-copy-out-within
-element-copy-out-within c = placed (c .before .before .before) .0
-
-mul-base : tie.Need-mul-base
-mul-base c = let l = placed (c .before .before .before .before) .0 in omega arith
-
-add-base : tie.Need-add-base
-add-base c = let l = placed (c .before .before .before .before) in omega arith
-
-mul-base-2 : tie.Need-mul-base-2
-mul-base-2 c = let l = placed (c .before .before .before .before) in omega arith
-
-mul-has-bit : tie.Need-mul-has-bit
-mul-has-bit c = let l = placed (c .before .before .before .before .before) .0 in omega arith
-
-element-copy-out-has-bit : tie.Need-element-copy-out-has-bit
-element-copy-out-has-bit c = placed (c .before .before .before .before .before) .0
-
-has-bit-requires : tie.Need-has-bit-requires
-has-bit-requires c κs = let l = placed (c .before .before .before .before .before .before) .1 in omega arith
-
-intact-requires : tie.Need-intact-requires
-intact-requires c κs =
-    let s = c .before .before .before .before .before .before .before .before .before in
+recalled-requires : tie.Need-recalled-requires
+recalled-requires c κs =
+    let s = c .before .before .before .before .before .before in
     let l = placed s in
-    (memory-bound _ _ _ _ (s .pre .0 .1) _ _ (l .0) (l .1), s .pre .0 .0 .masks)
+    (l .0, l .1, s .pre .0 .1 .long, s .pre .0 .0 .masks)
 
 same-length : tie.Need-same-length
 same-length c = search needs
 
 returns : tie.Need-returns
-unfolding has
 returns c =
-    let known = c .before .before .before .before in
-    let s = known .before .before .before .before .before .before .before in
-    let shows = s .pre .0 .1 .shows _ _ (sym (known .has-bit .ensures) ∙ c .before .before .before .if2 .taken) in
-    record { passed = sym (shows-passes _ _ _ _ _ _ shows (c .before .intact .ensures .1 (c .if3 .taken))); store = s .pre .0 .1 }
+    let s = c .before .before .before .before .before .before .before .before in
+    let r = c .before .recalled .ensures .0 (c .if2 .taken) in
+    let m = remembered-passes _ _ _ _ _ _ (s .pre .0 .1 .keeps _ _ (r .0)) (r .1) in
+    record { passed = sym (m .0); store = s .pre .0 .1; kept = λ _ _. (r .0, m .1) }
 
 cut-requires : tie.Need-cut-requires
-cut-requires c κs = let l = placed (c .before .before .before .before .before .before) in (l .0, omega arith)
+cut-requires c κs = let l = placed (c .before .before .before .before .before) in (l .0, omega arith)
+
+mul-test : tie.Need-mul-test
+mul-test c = let l = placed (c .before .before .before .before .before .before .before) .0 in omega arith
+
+element-copy-out-test : tie.Need-element-copy-out-test
+element-copy-out-test c = placed (c .before .before .before .before .before .before .before) .0
 
 test-requires : tie.Need-test-requires
 test-requires c κs =
-    let cut = c .before in
-    let s = cut .before .before .before .before .before .before .before in
+    let cut = c .before .before in
+    let s = cut .before .before .before .before .before .before in
     let h = s .pre .1 .0 in
     (placed s .0, rw (cut .cut .ensures) (cut-asks _ _ _ _ _ (s .pre .0 .0) _ _ _ (h .fields) (h .self) (s .pre .1 .1)))
 
 returns-2 : tie.Need-returns-2
 returns-2 c =
-    let cut = c .before .before .before in
+    let cut = c .before .before .before .before in
     let test = c .before .test in
+    let failed = not-true (test .result) (c .if3 .taken) in
     record {
-      passed = sym (not-true (test .result) (c .if4 .taken)) ∙ test .ensures _ _ (cut .cut .ensures) .passed;
-      store = cut .before .before .before .before .before .before .before .pre .0 .1;
+      passed = sym failed ∙ test .ensures _ _ (cut .cut .ensures) .passed;
+      store = cut .before .before .before .before .before .before .pre .0 .1;
+      kept = λ _ e. absurd (true≢false (sym e));
     }
 
-store-requires : tie.Need-store-requires
-store-requires c κs =
-    let s = c .before .before .before .before .before .before .before .before .before .before .before .before .before .before in
+remember-requires : tie.Need-remember-requires
+remember-requires c κs =
+    let test = c .before .before .before .before .before in
+    let cut = test .before .before .before in
+    let s = cut .before .before .before .before .before .before in
     let l = placed s in
-    memory-bound _ _ _ _ (s .pre .0 .1) _ _ (l .0) (l .1)
+    let ok = not-false (test .test .result) (c .before .before .before .before .if3 .left) in
+    (l .0, l .1, s .pre .0 .1 .long, tested-masks _ _ _ _ _ (s .pre .0 .0) (test .test .ensures _ _ (cut .cut .ensures)) ok)
 
 one-bit-requires : tie.Need-one-bit-requires
 one-bit-requires c κs =
-    let t = c .before .before .before .before .before .before .before .before in
-    let l = placed (t .before .before .before .before .before .before .before .before .before) .1 in
+    let test = c .before .before .before .before .before .before .before .before in
+    let l = placed (test .before .before .before .before .before .before .before .before .before) .1 in
     omega arith
 
 mul-known : tie.Need-mul-known
 mul-known c =
-    let t = c .before .before .before .before .before .before .before .before .before in
-    let l = placed (t .before .before .before .before .before .before .before .before .before) .0 in
+    let test = c .before .before .before .before .before .before .before .before .before in
+    let l = placed (test .before .before .before .before .before .before .before .before .before) .0 in
     omega arith
 
 element-copy-out-known : tie.Need-element-copy-out-known
 element-copy-out-known c =
-    let t = c .before .before .before .before .before .before .before .before .before in
-    placed (t .before .before .before .before .before .before .before .before .before) .0
+    let test = c .before .before .before .before .before .before .before .before .before in
+    placed (test .before .before .before .before .before .before .before .before .before) .0
 
 element-write-known : tie.Need-element-write-known
 element-write-known c =
-    let t = c .before .before .before .before .before .before .before .before .before .before in
-    placed (t .before .before .before .before .before .before .before .before .before) .0
+    let test = c .before .before .before .before .before .before .before .before .before .before in
+    placed (test .before .before .before .before .before .before .before .before .before) .0
 
 same-length-2 : tie.Need-same-length-2
-same-length-2 c = c .before .before .before .before .store .ensures .sized
+same-length-2 c = c .before .before .before .before .remember .ensures .sized
 
 returns-3 : tie.Need-returns-3
 returns-3 c =
     let test = c .before .before .before .before .before .before .before .before .before .before in
-    let cut = test .before .before in
-    let s = cut .before .before .before .before .before .before .before in
+    let cut = test .before .before .before in
+    let s = cut .before .before .before .before .before .before in
     let l = placed s in
-    let ok = not-false (test .test .result) (c .before .before .before .before .before .before .before .before .before .if4 .left) in
+    let ok = not-false (test .test .result) (c .before .before .before .before .before .before .before .before .before .if3 .left) in
     let d = test .test .ensures _ _ (cut .cut .ensures) in
-    let shows = left-shows _ _ _ _ _ (sym (d .passed) ∙ ok) in
+    let stored = c .before .before .before .before .remember .ensures in
+    let sized = length-restrict _ _ ∙ tested-masks _ _ _ _ _ (s .pre .0 .0) d ok .long in
+    let rest = ap (restrict _) (d .rest ok) in
     record {
       passed = sym ok ∙ d .passed;
       store = rw (c .before .one-bit .ensures)
-          (store-add _ _ _ _ (s .pre .0 .1) _ _ (l .0) (l .1) _ (d .sized ∙ s .pre .0 .0 .masks .long) (rw (d .rest ok) shows) _
-          (c .before .before .before .before .store .ensures));
+          (store-add _ _ _ _ _ (s .pre .0 .1) _ _ (l .0) (l .1) _ sized _ stored (remembered-now _ _ _ _ _ _ (sym (d .passed) ∙ ok) rest));
+      kept = λ _ _. (
+        rw (c .before .one-bit .ensures) (known-added _ _ _ _ _ (s .pre .0 .1) _ _ (l .0) (l .1)),
+        memory-same _ _ _ _ _ (s .pre .0 .1) _ _ (l .0) (l .1) _ sized _ stored ∙ rest,
+      );
     }
 
 returns-4 : tie.Need-returns-4
 returns-4 c =
     let test = c .before .before in
-    let cut = test .before .before in
+    let cut = test .before .before .before in
     record {
-      passed = sym (not-false (test .test .result) (c .before .if4 .left)) ∙ test .test .ensures _ _ (cut .cut .ensures) .passed;
-      store = cut .before .before .before .before .before .before .before .pre .0 .1;
+      passed = sym (not-false (test .test .result) (c .before .if3 .left)) ∙ test .test .ensures _ _ (cut .cut .ensures) .passed;
+      store = cut .before .before .before .before .before .before .pre .0 .1;
+      kept = λ e _. absurd (never e (c .if4 .left));
     }
 
 pub check-spec : {M : Type 1} → statement M
 check-spec =
     tie.close
     (tie.spec
-    mul-within
-    element-copy-out-within
-    mul-base
-    add-base
-    mul-base-2
-    mul-has-bit
-    element-copy-out-has-bit
-    has-bit-requires
-    intact-requires
+    recalled-requires
     same-length
     returns
     cut-requires
+    mul-test
+    element-copy-out-test
     test-requires
     returns-2
-    store-requires
+    remember-requires
     one-bit-requires
     mul-known
     element-copy-out-known

@@ -1,15 +1,14 @@
 -- `intact` gathers the positions that the set lacks.
-use mathlib.Core.Path.{_≡_, sym, ap, _∙_}
+use mathlib.Core.Path.{_≡_, sym, _∙_}
 use mathlib.Core.Logic.{⊎-elim}
 use Prim.Native.Nat.{ℕ, _+_, _-_, _^_, _≤_, _<_}
 use native.Mathlib.Nat.{eq-or-lt-of-le}
 use native.Mathlib.Omega.{arith}
 use borrow.Author.Needs.{needs}
-use borrow.Author.Tests.{eqb-true}
-use lib.Dec.{eqb}
+use borrow.Author.Tests.{eqb-true, eq-eqb}
 use lib.ListN.{getD}
 use Rattle.limits.specs.Limits.{mostFields}
-use Rattle.visiting.specs.Store.{lackBelow, lack-none, lack-next, lack-inside}
+use Rattle.visiting.specs.Memory.{lackBelow, lack-none, lack-next, lack-inside}
 use Rattle.visiting.proofs.store.intact.Statement.{statement}
 use Rattle.visiting.proofs.store.intact.Tie as tie
 
@@ -58,11 +57,10 @@ returns : tie.Need-returns Inv-loop μ-loop
 returns c =
     let i = c .before .loop .inv in
     let e : c .before .loop .h ≡ mostFields = omega arith in
-    let z = rw e at (i .1) in (
-      ap (λ (x : ℕ). eqb x 0) z,
-      λ t. lack-inside _ _ _ (λ j l. i .2 j (omega arith)) (c .before .before .pre .1 .small)
-          (c .before .before .pre .0) (sym z ∙ eqb-true _ 0 t),
-    )
+    let z = rw e at (i .1) in
+    let p = c .before .before .pre in
+    let holds = lack-inside _ _ _ (λ j l. i .2 j (omega arith)) (p .1 .small) (p .0) in
+    (λ t. holds .0 (sym z ∙ eqb-true _ 0 t), λ h. eq-eqb _ 0 (z ∙ holds .1 h))
 
 pub intact-spec : {M : Type 1} → statement M
 intact-spec =

@@ -1,5 +1,6 @@
 -- `visit` tests the settings of a field, and removes those that fail.
 use mathlib.Core.Path.{_≡_, refl, sym, _∙_}
+use mathlib.Core.Bool.{true≢false}
 use Prim.Native.Nat.{_<_}
 use native.Mathlib.Omega.{arith}
 use borrow.Author.Needs.{needs}
@@ -10,7 +11,7 @@ use Rattle.limits.specs.Limits.{mostFields}
 use Rattle.masks.specs.Words.{clear-lt}
 use Rattle.network.specs.Network.{problemIn}
 use Rattle.closing.specs.Asks.{asks-shrunk}
-use Rattle.visiting.specs.Store.{Store}
+use Rattle.visiting.specs.Store.{Store, store-shrunk}
 use Rattle.visiting.specs.Visit.{Visiting, visiting-start, visiting-has, visiting-pass, visiting-none, visiting-fail, visiting-end}
 use Rattle.visiting.proofs.visit.visit.Statement.{statement}
 use Rattle.visiting.proofs.visit.visit.Tie as tie
@@ -18,7 +19,7 @@ use Rattle.visiting.proofs.visit.visit.Tie as tie
 abbrev Inv-loop : tie.InvT-loop
 Inv-loop m₀ known₀ memory₀ remembers f forward turned net n touched₀ left₀ m known memory touched left =
     Visiting (problemIn net forward turned) (getD (net .hood) f 0) f m₀ left touched m
-    × Store (problemIn net forward turned) (net .hood) known memory × (length memory ≡ length memory₀)
+    × Store (problemIn net forward turned) (net .hood) m known memory × (length memory ≡ length memory₀)
 
 abbrev μ-loop : tie.MeasureT-loop
 μ-loop m₀ known₀ memory₀ remembers f forward turned net n touched₀ left₀ m known memory touched left = left
@@ -73,7 +74,7 @@ returns c =
     let loop = check .before .before .before .before .before .before .before .before .before .before in
     let fails = sym (check .check .ensures .passed) ∙ not-true (check .check .result) (failed .if1 .taken) in (
       visiting-none _ _ _ _ _ _ _ _ (loop .loop .inv .0) fails _ _ (rw (c .if2 .taken) at (c .before .remove .ensures)) _,
-      check .check .ensures .store,
+      λ e. absurd (true≢false e),
     )
 
 mul-left-2 : tie.Need-mul-left-2 Inv-loop μ-loop
@@ -109,7 +110,7 @@ loop-again c =
     let fails = sym (check .check .ensures .passed) ∙ not-true (check .check .result) (failed .if1 .taken) in
     let lost = rw (c .before .before .if2 .left) at (removed .remove .ensures) in (
       rw (clear .clear-bit .ensures) (visiting-fail _ _ _ _ _ _ _ _ (loop .loop .inv .0) fails _ _ lost),
-      check .check .ensures .store,
+      store-shrunk _ (lost .sized) (lost .shrunk refl .inside) (check .check .ensures .store),
       check .check .kept .1 .1 .0 ∙ loop .loop .inv .2,
     )
 
@@ -133,7 +134,7 @@ same-length-2 : tie.Need-same-length-2 Inv-loop μ-loop
 same-length-2 c = c .before .loop .inv .2
 
 returns-2 : tie.Need-returns-2 Inv-loop μ-loop
-returns-2 c = (visiting-end _ _ _ _ _ _ _ (c .loop-test .left) (c .before .loop .inv .0), c .before .loop .inv .1)
+returns-2 c = (visiting-end _ _ _ _ _ _ _ (c .loop-test .left) (c .before .loop .inv .0), λ _. c .before .loop .inv .1)
 
 pub visit-spec : {M : Type 1} → statement M
 visit-spec =
