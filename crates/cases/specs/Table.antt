@@ -53,11 +53,11 @@ agree false b = not b
 
 -- It opens all that it computes with, so a theorem says `unfolding allHold` and no more.
 unfoldable pub holds : Case → Bool
-unfolding agree restrict wipedOut offers passes passesOver noneEmpty neighbourhood fieldsWithin widen allFields closing supported supportedBy partner
-    largest sweeps sweep someEmpty empty cut same count only countBits countIn someBit someIn keepBits keepIn maskOf bit has pad someBelow
-    allBelow answers afterAll tabulate occurrences number after first causes judged malformed noEngine isOrder spaceShort reversible
-    allOnSheet onSheet inForce sameDecision without changeBy backed step otherChosen starts startSet offersOf wiped outlineOf refusalFrom
-    numbers items numberAt groups pick advance fieldStart ruleStart sheetProblem runs pairs
+unfolding agree restrict wipedOut offers passes passesOver noneEmpty neighbourhood fieldsWithin widen allFields closing supported
+    supportedBy partner largest sweeps sweep someEmpty empty cut same count only countBits countIn someBit someIn keepBits keepIn maskOf
+    bit has pad someBelow allBelow answers afterAll tabulate occurrences number after first causes judged malformed noEngine isOrder
+    spaceShort reversible allOnSheet onSheet inForce sameDecision without changeBy backed step otherChosen starts startSet offersOf wiped
+    outlineOf refusalFrom numbers items numberAt groups pick advance fieldStart ruleStart sheetProblem runs pairs
 holds (consistency P k S closed offered wiped) =
     same (closing P (allFields P) S) closed && same (offers P k S) offered && agree (wipedOut P k S) wiped
 holds (leaves P k S f v masks) = passes P k S f v && same (leftIn P (neighbourhood P k f) S f v) masks
