@@ -56,8 +56,8 @@ not-judged k h = record {
   not-13 = λ z. let e = h (omega arith) (omega arith) in omega arith;
 }
 
-none-is-0 : NotJudged 0
-none-is-0 = not-judged 0 (λ a b. omega arith)
+not-judged-0 : NotJudged 0
+not-judged-0 = not-judged 0 (λ a b. omega arith)
 
 session-avoids : (k : ℕ) (o : Outline) (c : Call) (l : Ledger) → (malformed o l ≡ true → MALFORMED ≡ k → ⊥)
     → Avoids k (sessionCauses o c l)
@@ -104,16 +104,16 @@ module _ (o : Outline) (c : Call) (engine : ℕ) (order : List ℕ) (l : Ledger)
   session-numbered = session-avoids 0 o c l (λ _ z. omega arith)
 
   engine-numbered : Numbered (engineCauses engine)
-  engine-numbered = engine-avoids 0 engine none-is-0
+  engine-numbered = engine-avoids 0 engine not-judged-0
 
   place-numbered : Numbered (placeCauses o c)
-  place-numbered = place-avoids 0 o c none-is-0
+  place-numbered = place-avoids 0 o c not-judged-0
 
   order-numbered : Numbered (orderCauses o order)
-  order-numbered = order-avoids 0 o order none-is-0
+  order-numbered = order-avoids 0 o order not-judged-0
 
   step-numbered : Numbered (stepCauses c l)
-  step-numbered = step-avoids 0 c l none-is-0
+  step-numbered = step-avoids 0 c l not-judged-0
 
   judged-avoids : (k : ℕ) → (malformed o l ≡ true → MALFORMED ≡ k → ⊥) → NotJudged k → Avoids k (judged o c engine order l)
   unfolding judged
@@ -124,7 +124,7 @@ module _ (o : Outline) (c : Call) (engine : ℕ) (order : List ℕ) (l : Ledger)
       (avoids-++ k (orderCauses o order) (stepCauses c l) (order-avoids k o order n) (step-avoids k c l n))))
 
   judged-numbered : Numbered (judged o c engine order l)
-  judged-numbered = judged-avoids 0 (λ _ z. omega arith) none-is-0
+  judged-numbered = judged-avoids 0 (λ _ z. omega arith) not-judged-0
 
   -- Each stage decides where those before it have no cause that applies.
   pub judged-session : (k : ℕ) → (k ≡ 0 → ⊥) → k ≡ first (sessionCauses o c l) → k ≡ found
@@ -228,7 +228,7 @@ module _ (g : Given) (c : Call) (l : Ledger) where
       pub number-offers : first early ≡ 0 → {k : ℕ} → k ≡ first (offersCauses xs (step c l)) → k ≡ number g c l
       number-offers z e = after-sheet (first-there early _ early-numbered z e)
 
-  -- A number past 6 that no cause has is not given, and neither is that of a cause that does not apply, 15.
+  -- A number past 6 that is none of 7 and 9 to 14 is not given; nor is 15, where the ledger is not malformed.
   pub number-avoids : (k : ℕ) → 6 < k → (WIPED-OUT ≡ k → ⊥) → (malformed (outlineOf xs) l ≡ true → MALFORMED ≡ k → ⊥)
       → (7 ≤ k → k ≤ 13 → k ≡ 8) → number g c l ≡ k → ⊥
   unfolding number causes

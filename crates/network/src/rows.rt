@@ -49,7 +49,7 @@ pub fn row<'a>(forward: &'a [u32], turned: &'a [u32], g: usize, f: usize) -> &'a
     &turned[at..end]
 }
 
-// Stores a word for each setting at a place. A set has as many masks, since the most fields and the most settings are one number.
+// Stores a word for each setting at a place.
 pub fn store(words: &mut [u32], base: usize, w: &[u32; SETTINGS])
     requires { ⌜ base + mostSettings ≤ length (now words) ⌝ }
     ensures { λ _. ⌜ Stored (now (words .entry)) base (wordsOf (now (w .entry))) mostSettings (now (words .exit)) ⌝ }

@@ -110,7 +110,7 @@ module _ (M : List ℕ) (base : ℕ) (S : List ℕ) where
             absurd (never e (ap (λ (x : ℕ). bit x v) past ∙ bit-of-zero v)))
             (bool-cases (ltb h mostFields))
 
--- ---- masks stored at a place
+-- ---- masks stored at a place: as many as `Stored` has words, since the most fields and the most settings are one number
 
 module _ (M0 : List ℕ) (base : ℕ) (t : List ℕ) where
   module _ (M : List ℕ) (s : Stored M0 base (wordsOf t) mostFields M) where

@@ -27,7 +27,7 @@ use Rattle.visiting.specs.Memory.{placeOf, places-apart, recall, recall-
 module _ (P : Problem) where
   -- ---- what is remembered of one setting
 
-  -- R is what a passed test of position v of field f over W left in W. It was made in the set `tested`, of which S is what is there now.
+  -- R is what the test of position v of field f over W leaves in W, in some set that has all of S and in which it passes.
   pub record Remembered (W f v : ℕ) (S R : List ℕ) : Type 0 where
     pub tested : List ℕ
     pub sized : length S ≡ length tested
@@ -82,13 +82,14 @@ module _ (P : Problem) where
   }
 
   module _ (hood S known M : List ℕ) (st : Store hood S known M) (f v : ℕ) (lf : f < mostFields) (lv : v < mostSettings) where
-    abbrev known′ : List ℕ
+    -- one setting more is known
+    abbrev pub known′ : List ℕ
     known′ = set known f (bitOr (getD known f 0) (2 ^ v))
 
     fl : f < length known
     fl = let n = st .masks .long in omega arith
 
-    pub known-added : has (set known f (bitOr (getD known f 0) (2 ^ v))) f v ≡ true
+    pub known-added : has known′ f v ≡ true
     unfolding has
     known-added =
         ap (λ (x : ℕ). bit x v) (getD-set-same known f _ 0 fl) ∙ bit-or (getD known f 0) (2 ^ v) v
@@ -123,8 +124,7 @@ module _ (P : Problem) where
           let lg = known-field g u e in
           recall-other M (placeOf f v) R M′ s (placeOf g u) (let l = st .long in omega arith) (places-apart g u f v lu lv d)
 
-      -- one setting more is known
-      pub store-add : Remembered (getD hood f 0) f v S R → Store hood S (set known f (bitOr (getD known f 0) (2 ^ v))) M′
+      pub store-add : Remembered (getD hood f 0) f v S R → Store hood S known′ M′
       store-add m = record {
         long = let l = st .long in let z = s .sized in omega arith;
         masks = record { long = length-set known f _ ∙ st .masks .long; small = small };
@@ -144,8 +144,8 @@ module _ (P : Problem) where
 
   -- ---- the test with the memory
 
-  -- Whether the setting passes, and what the memory has become. Of a setting that passed, an engine that remembers knows just what its test
-  -- leaves in the neighbourhood, whether or not it was tested again.
+  -- Whether the setting passes, and what the memory has become. Where the engine remembers, a setting that passed is known, and the masks at
+  -- its place are what its test leaves in the neighbourhood, whether or not it was tested again.
   pub record Checked (hood S : List ℕ) (remembers : Bool) (f v : ℕ) (ok : Bool) (known M : List ℕ) : Type 0 where
     pub passed : ok ≡ passesOver P (getD hood f 0) S f v
     pub store : Store hood S known M

@@ -10,7 +10,7 @@ pub enum Engine {
     /// SAC-1: passes over all fields until one changes nothing.
     #[default]
     Sac1 = 1,
-    /// SAC-2: as SAC-1, but a setting that passed its test is tested again only when some of what the test left has gone.
+    /// SAC-2: as SAC-1, but a setting that passed is tested again only when some of what its test left in the neighbourhood has gone.
     Sac2 = 2,
     /// The queue method: only fields whose neighbourhood changed are visited again.
     Queue = 3,

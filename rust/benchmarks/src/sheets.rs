@@ -1,4 +1,4 @@
-//! The sheets that are measured: random ones, planted ones and pages of a mill. The same sheet for the same seed.
+//! The sheets that are measured: random ones, planted ones, long ones and pages of a mill. The same sheet for the same seed.
 
 mod mill;
 

@@ -6,7 +6,7 @@ use tests::linked::Linked;
 use tests::runner::{run, Runner};
 use tests::text::print;
 
-/// The engine that is asked for. 4 alone is wrong; 2 is no cause at a short reach either, so 8 never meets the others.
+/// The engine that is asked for: 4 is refused by 7; 2 at a short reach is no cause.
 #[derive(Clone, Copy, Debug, PartialEq, Eq)]
 enum Engine {
     Three,

@@ -38,9 +38,11 @@ fn forged_sessions() {
 fn long_sheets() {
     let tally = share(Size::Long, false, false, 150);
     all_given(&tally, &[0, 6, 7, 9, 10, 11, 12, 13, 14]);
-    if tally.calls() >= 30_000 {
+    if tally.calls() >= 10_000 {
         let counts = (tally.fields.len(), tally.settings.len(), tally.reaches.len(), tally.kinds.len());
         assert_eq!(counts, (24, 24, 24, 6), "{tally}");
+    }
+    if tally.calls() >= 30_000 {
         assert!(tally.accepted.iter().flatten().all(|&count| count > 0), "{tally}");
     }
 }

@@ -1,4 +1,4 @@
-//! What engines 2 and 3 save beside engine 1, as Markdown tables: tests of settings, and time from a sheet's list of numbers and all of its
+//! What engines 2 and 3 save against engine 1, as Markdown tables: tests of settings, and time from a sheet's list of numbers and all of its
 //! settings to the offers. The plain methods count the tests; they make those of the proved engines. With `--long`, three times as many
 //! sheets, and twice the time for each.
 
@@ -14,7 +14,10 @@ use std::time::Instant;
 
 /// The engines, and the plain methods that make their tests.
 const PROVED: [Role; 3] = [Role::Proved(Engine::Sac1), Role::Proved(Engine::Sac2), Role::Proved(Engine::Queue)];
-const PLAIN: [Role; 3] = [Role::AtOnce, Role::Sac2, Role::Queue];
+const COUNTED: [Role; 3] = [Role::AtOnce, Role::Sac2, Role::Queue];
+
+/// The headings of what `Tests::all_cells` gives.
+const TESTS: [&str; 5] = ["tests of engine 1", "of engine 2", "of engine 3", "engine 2 saves", "engine 3 saves"];
 
 /// The sheets of a series at a reach, measured.
 struct Line {
@@ -27,7 +30,7 @@ impl Line {
     fn new(series: &Series, reach: u32, effort: Effort) -> Line {
         let jobs: Vec<Job> = series.sheets(effort.sheets, reach).iter().map(Job::new).collect();
         let mut compared = engines(series.source.fields());
-        compared.retain(|contestant| PROVED.contains(&contestant.role) || PLAIN.contains(&contestant.role));
+        compared.retain(|contestant| PROVED.contains(&contestant.role) || COUNTED.contains(&contestant.role));
         Line { source: series.source, reach, measured: measure::Measured::new(&mut compared, &jobs, effort.budget) }
     }
 }
@@ -49,7 +52,7 @@ impl Tests {
     fn of(lines: &[&Line], wanted: fn(&Offers) -> bool) -> Tests {
         let mut tests = Tests::default();
         for Line { measured, .. } in lines {
-            let columns = PLAIN.map(|role| measured.column(role));
+            let columns = COUNTED.map(|role| measured.column(role));
             for (place, _) in measured.answers.iter().enumerate().filter(|(_, answer)| wanted(answer)) {
                 tests.sheets += 1;
                 tests.made.iter_mut().zip(columns).for_each(|(made, column)| *made += column.tests[place]);
@@ -67,6 +70,11 @@ impl Tests {
     /// The tests of engine 1, and what is saved.
     fn cells(&self) -> Vec<String> {
         [&[self.made[0].to_string()][..], &self.saved()].concat()
+    }
+
+    /// The tests of each engine, and what is saved.
+    fn all_cells(&self) -> Vec<String> {
+        [&self.made.map(|made| made.to_string())[..], &self.saved()].concat()
     }
 }
 
@@ -86,21 +94,18 @@ fn wiped_out(lines: &[&Line]) -> String {
 
 /// A row about some sheets, all at one reach.
 fn print_row(label: String, reach: u32, lines: &[&Line]) {
-    let tests = Tests::of(lines, |_| true);
     let mut cells = vec![label, reach.to_string(), wiped_out(lines)];
-    cells.extend(tests.made.map(|made| made.to_string()));
-    cells.extend(tests.saved());
+    cells.extend(Tests::of(lines, |_| true).all_cells());
     cells.extend(time_cells(lines, PROVED));
-    cells.extend(time_cells(lines, PLAIN));
+    cells.extend(time_cells(lines, COUNTED));
     row(&cells);
 }
 
 /// Measures sheets and prints a row for each series and reach, and one for all sheets at a reach.
 fn print_savings(title: &str, all: &[Series], effort: Effort) -> Vec<Line> {
     println!("\n## {title}");
-    let tests = ["tests of engine 1", "of engine 2", "of engine 3", "engine 2 saves", "engine 3 saves"];
     let times = ["engine 2 time", "engine 3 time", "plain SAC-2 time", "plain queue time"];
-    heading(&[&["sheets", "reach", "wiped out"][..], &tests, &times].concat());
+    heading(&[&["sheets", "reach", "wiped out"][..], &TESTS, &times].concat());
     let lines = measure(all, effort);
     for line in &lines {
         print_row(line.source.label(), line.reach, &[line]);
@@ -115,7 +120,8 @@ fn print_savings(title: &str, all: &[Series], effort: Effort) -> Vec<Line> {
 /// A row about some sheets at reach 2: all of them, those that are not wiped out, and those that are.
 fn print_split_row(label: String, lines: &[&Line]) {
     let mut cells = vec![label, wiped_out(lines)];
-    for wanted in [|_: &Offers| true, Offers::is_some, Offers::is_none] {
+    cells.extend(Tests::of(lines, |_| true).all_cells());
+    for wanted in [Offers::is_some, Offers::is_none] {
         cells.extend(Tests::of(lines, wanted).cells());
     }
     cells.extend(time_cells(lines, PROVED));
@@ -125,9 +131,9 @@ fn print_split_row(label: String, lines: &[&Line]) {
 /// Measures sheets around the tightness where they begin to be wiped out at reach 2.
 fn print_at_reach_2(effort: Effort) {
     println!("\n## Around the tightness where sheets begin to be wiped out at reach 2, 24 fields of 24 settings");
-    let tests = ["tests of engine 1", "engine 2 saves", "engine 3 saves"];
-    let split = [["not wiped out: tests of engine 1", tests[1], tests[2]], ["wiped out: tests of engine 1", tests[1], tests[2]]];
-    heading(&[&["sheets", "wiped out"][..], &tests, &split.concat(), &["engine 2 time", "engine 3 time"]].concat());
+    let [.., second, third] = TESTS;
+    let split = [["not wiped out: tests of engine 1", second, third], ["wiped out: tests of engine 1", second, third]];
+    heading(&[&["sheets", "wiped out"][..], &TESTS, &split.concat(), &["engine 2 time", "engine 3 time"]].concat());
     let mut most = vec![];
     for all in at_reach_2() {
         let lines = measure(&all, effort);
