@@ -16,7 +16,7 @@ use Rattle.consistency.specs.Problem.{Problem, allFields}
 use Rattle.consistency.specs.Closing.{partner, supportedBy, supported, closing}
 use Rattle.consistency.specs.Neighbourhood.{widen, fieldsWithin, neighbourhood}
 use Rattle.consistency.specs.Offers.{noneEmpty, passesOver, passes, offers, wipedOut}
-use Rattle.consistency.specs.Remembered.{leftIn}
+use Rattle.consistency.specs.Left.{leftIn}
 use Rattle.groups.specs.Groups.{groups, numberAt}
 use Rattle.grammar.specs.Grammar.{advance}
 use Rattle.sheet.specs.Sources.{refusalFrom, numbers, items, ofBytes}

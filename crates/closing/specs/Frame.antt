@@ -19,7 +19,7 @@ use Rattle.consistency.specs.Neighbourhood.{neighbourhood}
 use Rattle.consistency.specs.Offers.{NoneEmpty, noneEmpty, noneEmpty-at, noneEmpty-by, noneEmpty-mono, left, passesOver}
 use Rattle.consistency.specs.Offers.{passes, offers, offers-is, offers-lose}
 use Rattle.consistency.specs.Offers.{offers-between, wipedOut, wipedOut-by}
-use Rattle.consistency.specs.Remembered.{passes-still}
+use Rattle.consistency.specs.Left.{passes-still}
 use Rattle.consistency.specs.Order.{offers-in-closing}
 use Rattle.closing.specs.Shrunk.{Shrunk}
 use Rattle.closing.specs.Close.{Ready, Closes}

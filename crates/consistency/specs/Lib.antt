@@ -4,7 +4,7 @@ pub mod Problem
 pub mod Closing
 pub mod Neighbourhood
 pub mod Offers
-pub mod Remembered
+pub mod Left
 pub mod Order
 pub mod SetUps
 pub mod Padding

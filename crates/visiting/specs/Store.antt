@@ -19,7 +19,7 @@ use Rattle.masks.specs.Words.{bit-or, bit-one}
 use Rattle.masks.specs.Sets.{has, _⊆_, ⊆-refl, ⊆-trans, getD-zeros}
 use Rattle.consistency.specs.Problem.{Problem, allFields}
 use Rattle.consistency.specs.Offers.{passesOver}
-use Rattle.consistency.specs.Remembered.{leftIn, passesOver-again}
+use Rattle.consistency.specs.Left.{leftIn, passesOver-again}
 use Rattle.network.specs.Stored.{Stored, wordsOf}
 use Rattle.closing.specs.Asks.{Masks}
 use Rattle.visiting.specs.Memory.{placeOf, places-apart, recall, recall-same, recall-other}

@@ -40,7 +40,7 @@ const STATEMENTS: &[(&str, &str)] = &[
     ("accepted/specs/Theorems.antt", "most-bytes most-numbers most-sheet-bytes most-sheet-numbers enough-room"),
     ("consistency/specs/Closing.antt", "closing-is"),
     ("consistency/specs/Offers.antt", "offers-is"),
-    ("consistency/specs/Remembered.antt", "passes-again"),
+    ("consistency/specs/Left.antt", "passes-again"),
     ("consistency/specs/Neighbourhood.antt", "neighbourhood-walk neighbourhood-whole"),
 ];
 
