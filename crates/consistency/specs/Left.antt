@@ -19,7 +19,7 @@ module _ (P : Problem) where
   abbrev pub leftIn : ℕ → List ℕ → ℕ → ℕ → List ℕ
   leftIn W S f v = restrict W (left P W S f v)
 
-  pub length-leftIn : (W : ℕ) (S : List ℕ) (f v : ℕ) → length (leftIn W S f v) ≡ length S
+  length-leftIn : (W : ℕ) (S : List ℕ) (f v : ℕ) → length (leftIn W S f v) ≡ length S
   length-leftIn W S f v = length-restrict W (left P W S f v) ∙ closing-is P W (cut S f v) .sized ∙ length-cut S f v
 
   module _ (W : ℕ) (S T : List ℕ) (f v : ℕ) (passed : passesOver P W S f v ≡ true) (there : leftIn W S f v ⊆ T) where

@@ -1,13 +1,12 @@
 -- What follows from demand 3, and from the calls' contracts, by name. What holds of the ledger alone stands in the crate `ledger`
 -- (`withdrawn-leaves`, `back-undoes`, `set-up-kept`).
 use mathlib.Core.Path.{_≡_, refl, sym, ap, _∙_}
-use mathlib.Core.Bool.{Bool, true, false}
+use mathlib.Core.Bool.{false}
 use mathlib.Core.List.{List, [], _∷_}
 use Prim.Native.Nat.{ℕ}
-use lib.Dec.{eqb}
 use lib.ListN.{length, take}
-use borrow.Author.Tests.{eqb-true, eq-eqb}
-use Rattle.masks.specs.Pick.{pick, pick-true}
+use borrow.Author.Tests.{eq-eqb}
+use Rattle.masks.specs.Pick.{pick-true}
 use Rattle.sheet.specs.Sources.{numbers, ofBytes}
 use Rattle.limits.specs.Refusals.{MALFORMED}
 use Rattle.accepted.specs.Outline.{outlineOf}
@@ -19,8 +18,9 @@ use Rattle.ledger.specs.Sound.{opened-formed, after-formed, never-15}
 use Rattle.ledger.specs.Theorems.{back-undoes, Admitted, lending, engine-and-order}
 use Rattle.session.specs.declared.Session.{Session}
 use Rattle.session.specs.View.{view}
-use Rattle.answering.specs.Answer.{CallResult, refused, accepted, result}
+use Rattle.answering.specs.Answer.{CallResult, result}
 use Rattle.theorem.specs.Turns.{Turn, Answered}
+use Rattle.theorem.specs.CallAgrees.{call-number}
 use Rattle.theorem.specs.Follows.{givenTo, numbersOf, fields, next, Agrees, Follows, ends, goes}
 use Rattle.theorem.proofs.Sequence.{Calls, none-yet, then, demand-3}
 
@@ -60,15 +60,6 @@ pub record SameBut (t u : Turn) : Type 0 where
 abbrev pub pageOf : Turn → CallResult
 pageOf t = record { number = t .number; session = t .session′; offers = t .left .offers }
 
--- the number of a result is the ledger's on what the session shows
-pub result-number : (g : Given) (c : Call) (s : Session) (before : List ℕ) → result g c s before .number ≡ number g c (view s)
-unfolding result
-result-number g c s before = go (number g c (view s)) (eqb (number g c (view s)) 0) refl
-  where
-    go : (k : ℕ) (b : Bool) → eqb k 0 ≡ b → pick b (accepted (numbers (ofBytes (g .sheet))) c s before) (refused k s before) .number ≡ k
-    go k true e = unfold pick in sym (eqb-true k 0 e)
-    go k false e = unfold pick in refl
-
 -- a result depends on what is given by its number and its sheet alone
 result-by : (g h : Given) (c : Call) (s : Session) (before : List ℕ) → number g c (view s) ≡ number h c (view s) → g .sheet ≡ h .sheet
     → result g c s before ≡ result h c s before
@@ -82,11 +73,8 @@ engine-order-spaces t u a b s p q =
     let h = lending g (u .engine) (u .order) in
     let v = view (t .session) in
     let e : givenTo u ≡ h = rw (s .sheet, s .offers, s .rows, s .memory) in
-    let x : t .number ≡ number g (t .call) v =
-    ap (λ (r : CallResult). r .number) (a .answers) ∙ result-number g (t .call) (t .session) (t .lent .offers) in
-    let y : u .number ≡ number h (t .call) v =
-    ap (λ (r : CallResult). r .number) (b .answers) ∙ result-number (givenTo u) (u .call) (u .session) (u .lent .offers)
-    ∙ rw (e, s .call, s .session) in
+    let x = call-number t a in
+    let y : u .number ≡ number h (t .call) v = call-number u b ∙ rw (e, s .call, s .session) in
     let k = engine-and-order g (u .engine) (u .order) (t .call) v (rw x at p) (rw y at q) in
     a .answers ∙ result-by g h (t .call) (t .session) (t .lent .offers) k refl
     ∙ sym (b .answers ∙ rw (e, s .call, s .session, s .offers))

@@ -1,5 +1,5 @@
 -- No call gives 8, whatever it is given (02, request 2).
-use mathlib.Core.Path.{_≡_, sym, ap, _∙_}
+use mathlib.Core.Path.{_≡_, sym, _∙_}
 use mathlib.Core.Logic.{⊎-elim}
 use mathlib.Core.List.{List}
 use Prim.Native.Nat.{ℕ}
@@ -13,11 +13,10 @@ use Rattle.accepted.specs.Refused.{refusal-few}
 use Rattle.accepted.specs.Produces.{refused-by}
 use Rattle.ledger.specs.Sound.{never-8}
 use Rattle.session.specs.View.{view}
-use Rattle.answering.specs.Answer.{CallResult}
 use Rattle.theorem.specs.Turns.{Turn}
 use Rattle.theorem.specs.Follows.{givenTo}
+use Rattle.theorem.specs.CallAgrees.{call-number}
 use Rattle.theorem.proofs.Sequence.{Called, answered}
-use Rattle.theorem.proofs.Corollaries.{result-number}
 use Rattle.theorem.proofs.RoundTrips.{ReadCalled, WriteCalled, read-answered, write-answered}
 
 -- a call of any of the library's functions, by the number that it gave
@@ -35,9 +34,7 @@ writer-not-8 xs e = ⊎-elim
 -- THE THEOREM
 pub no-8 : {k : ℕ} → Gave k → k ≡ TOO-NARROW → ⊥
 no-8 (by-call t c) e =
-    let g = givenTo t in
-    let n = ap (λ (r : CallResult). r .number) (answered c .answers) ∙ result-number g (t .call) (t .session) (t .lent .offers) in
-    never-8 g (view (t .session)) (t .call) (sym n ∙ e)
+    never-8 (givenTo t) (view (t .session)) (t .call) (sym (call-number t (answered c)) ∙ e)
 no-8 (by-reading {sheet} {before} {after} {r} c) e =
     let s = refusal (ofBytes sheet) in
     let q = refused-by s (numbers (ofBytes sheet)) before r after (λ z. omega arith) (λ z. omega arith) (read-answered c) in

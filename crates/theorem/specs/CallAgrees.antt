@@ -10,7 +10,7 @@ use borrow.Author.Tests.{eqb-true, eqb-false}
 use Rattle.masks.specs.Pick.{pick-true, pick-false}
 use Rattle.accepted.specs.Accept.{bytes-accepted}
 use Rattle.ledger.specs.Ledger.{Decision, Ledger, Given, inForce, step, offersOf, number, after}
-use Rattle.ledger.specs.Laws.{SameLedger, same-then, step-same, alike-offers, number-same}
+use Rattle.ledger.specs.Laws.{SameLedger, same-ledger, same-then, step-same, alike-offers, number-same}
 use Rattle.ledger.specs.Judging.{sheet-accepted, none-applies}
 use Rattle.session.specs.declared.Session.{Session}
 use Rattle.session.specs.Decisions.{heldIn}
@@ -104,3 +104,7 @@ module _ (l : Ledger) (t : Turn) (same : SameLedger (view (t .session)) l) (said
       by : (b : Bool) → eqb k 0 ≡ b → CallAgrees
       by true e = was-accepted e
       by false e = was-refused e
+
+-- the number of a call is the ledger's, on what the session shows
+pub call-number : (t : Turn) → Answered t → t .number ≡ number (givenTo t) (t .call) (view (t .session))
+call-number t said = let v = view (t .session) in call-agrees v t (same-ledger v) said .0 .numbered

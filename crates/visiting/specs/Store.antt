@@ -144,8 +144,8 @@ module _ (P : Problem) where
 
   -- ---- the test with the memory
 
-  -- Whether the setting passes, and what the memory has become. Where the engine remembers, a setting that passed is known, and the masks at
-  -- its place are what its test leaves in the neighbourhood, whether or not it was tested again.
+  -- Whether the setting passes, and what the memory has become. Where the engine remembers, a setting that passed is known, and the masks
+  -- at its place are what its test leaves in the neighbourhood, whether or not it was tested again.
   pub record Checked (hood S : List ℕ) (remembers : Bool) (f v : ℕ) (ok : Bool) (known M : List ℕ) : Type 0 where
     pub passed : ok ≡ passesOver P (getD hood f 0) S f v
     pub store : Store hood S known M

@@ -1,5 +1,5 @@
-//! What engines 2 and 3 save against engine 1, as Markdown tables: tests of settings, and time from a sheet's list of numbers and all of its
-//! settings to the offers. The plain methods count the tests; they make those of the proved engines. With `--long`, three times as many
+//! What engines 2 and 3 save against engine 1, as Markdown tables: tests of settings, and time from a sheet's list of numbers and all of
+//! its settings to the offers. The plain methods count the tests; they make those of the proved engines. With `--long`, three times as many
 //! sheets, and twice the time for each.
 
 use belaykeel::Engine;

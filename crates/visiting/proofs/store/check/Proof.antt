@@ -72,7 +72,7 @@ remember-requires c κs =
 one-bit-requires : tie.Need-one-bit-requires
 one-bit-requires c κs =
     let test = c .before .before .before .before .before .before .before .before in
-    let l = placed (test .before .before .before .before .before .before .before .before .before) .1 in
+    let l = placed (test .before .before .before .before .before .before .before .before .before) in
     omega arith
 
 mul-known : tie.Need-mul-known
