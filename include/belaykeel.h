@@ -25,7 +25,8 @@ extern "C" {
 #define BELAYKEEL_ROWS_WORDS 13248 /* the least words of the first work space */
 #define BELAYKEEL_MEMORY_WORDS 13824 /* the least words of the second work space */
 
-/* The numbers, in words. They are tried in the order 6; 1 to 5; 15, 7, 9, 10, 11, 13, 12, 14; open skips 15. Writing alone has 20. */
+/* The numbers, in words. They are tried in the order 6; 1 to 5; 15, at open 18 in its place; 7, 9, 10, 11, 13, 12, 14. Writing alone has
+ * 20. */
 enum {
     BELAYKEEL_ACCEPTED = 0,
     BELAYKEEL_ENDS_INSIDE = 1, /* bytes or numbers end inside the sheet */
@@ -43,6 +44,7 @@ enum {
     BELAYKEEL_NOTHING_PAST = 13, /* back, and there is no event */
     BELAYKEEL_WIPED_OUT = 14, /* under the decisions that would hold after the call a field has no offer */
     BELAYKEEL_MALFORMED = 15, /* the session is malformed */
+    BELAYKEEL_NO_SELECTION = 18, /* the mask of selected fields is empty or names a field beyond the sheet */
     BELAYKEEL_RETIRED = 20 /* the writer met a rule of kind 2, which is read but no longer written */
 };
 
@@ -61,12 +63,15 @@ typedef struct {
 } belaykeel_event;
 
 /* What the control room holds between calls. Bit v of choices[f] means that position v of field f is chosen, and of strikes[f] that it is
- * struck. The first `count` events have happened, the oldest first; later places are not read. Before open it may hold anything. */
+ * struck. The first `count` events have happened, the oldest first; later places are not read. Bit f of `selected` means that field f is
+ * selected; only an accepted open sets it. Before open the session may hold anything. One of 0s selects no field, so it is malformed until
+ * it is opened. */
 typedef struct {
     uint32_t choices[BELAYKEEL_FIELDS];
     uint32_t strikes[BELAYKEEL_FIELDS];
     belaykeel_event events[BELAYKEEL_EVENTS];
     uint32_t count;
+    uint32_t selected;
 } belaykeel_session;
 
 /* What reading and writing give: 0 and how many numbers or bytes, or the number of a refusal and 0. */
@@ -79,16 +84,19 @@ typedef struct {
  *   session            altered by an accepted call
  *   sheet              the sheet's bytes
  *   engine             1, 2 or 3
- *   order              the field positions in the order in which the engine visits them, each just one time
+ *   order              every field position just one time, in the order in which the engine visits those that are selected
+ *   selected           the mask of selected fields: bit f means that every setting offered in field f passes its test; the offers of the
+ *                      other fields are closed only. (1 << n) - 1 selects all n fields of a sheet
  *   field, position    the decision, counted from 0
  *   offers             an accepted call writes a mask for each field of the sheet: bit v means that position v is offered; later words stay
  *   rows, memory       work spaces; what they hold before does not matter, and they may hold anything afterwards, except where 6 refuses:
  *                      then they too are as they were
  */
 
-/* Starts: no decisions, no events. */
+/* Starts: no decisions, no events, and this mask of selected fields, which the session keeps for later calls. */
 uint32_t belaykeel_open(belaykeel_session *session, const uint8_t *sheet, size_t sheet_len, uint32_t engine, const uint8_t *order,
-    size_t order_len, uint32_t *offers, size_t offers_len, uint32_t *rows, size_t rows_len, uint32_t *memory, size_t memory_len);
+    size_t order_len, uint32_t selected, uint32_t *offers, size_t offers_len, uint32_t *rows, size_t rows_len, uint32_t *memory,
+    size_t memory_len);
 
 /* Changes nothing and gives the offers. */
 uint32_t belaykeel_show(belaykeel_session *session, const uint8_t *sheet, size_t sheet_len, uint32_t engine, const uint8_t *order,

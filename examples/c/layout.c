@@ -9,7 +9,8 @@ AT(belaykeel_session, choices, 0);
 AT(belaykeel_session, strikes, 96);
 AT(belaykeel_session, events, 192);
 AT(belaykeel_session, count, 960);
-SIZE(belaykeel_session, 964);
+AT(belaykeel_session, selected, 964);
+SIZE(belaykeel_session, 968);
 
 AT(belaykeel_event, kind, 0);
 AT(belaykeel_event, field, 4);

@@ -8,6 +8,7 @@ static uint32_t rows[BELAYKEEL_ROWS_WORDS];
 static uint32_t memory[BELAYKEEL_MEMORY_WORDS];
 static uint32_t offers[BELAYKEEL_OFFERS_WORDS];
 static const uint8_t order[] = {0, 1};
+static const uint32_t selected = 3; /* both fields */
 
 #define GIVEN sheet, len, BELAYKEEL_SAC_1, order, sizeof order
 #define LENT offers, BELAYKEEL_OFFERS_WORDS, rows, BELAYKEEL_ROWS_WORDS, memory, BELAYKEEL_MEMORY_WORDS
@@ -34,7 +35,7 @@ int main(int argc, char **argv)
     belaykeel_session session;
     memset(&session, 0xff, sizeof session); /* open does not read it */
     print("show before open", belaykeel_show(&session, GIVEN, LENT));
-    print("open", belaykeel_open(&session, GIVEN, LENT));
+    print("open", belaykeel_open(&session, GIVEN, selected, LENT));
     print("strike 0/2", belaykeel_strike(&session, GIVEN, 0, 2, LENT));
     print("choose 1/1", belaykeel_choose(&session, GIVEN, 1, 1, LENT));
     print("choose 1/0", belaykeel_choose(&session, GIVEN, 1, 0, LENT));

@@ -38,6 +38,10 @@ positions-code d h =
     (omega arith, ap (λ (n : ℕ). n - 1) e ∙ sym (maskOf-all d))
 
 module _ (xs : List ℕ) where
+  pub outline-few : Accepted xs → outlineOf xs .fields ≤ mostFields
+  unfolding outlineOf
+  outline-few a = facts xs a .fields-few
+
   pub full-at : (f : ℕ) → f < fieldsOf xs → getD (outlineOf xs .full) f 0 ≡ settingsOf xs f
   unfolding outlineOf
   full-at f h =

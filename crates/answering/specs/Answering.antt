@@ -15,7 +15,7 @@ use Rattle.sheet.specs.Sources.{refusal, numbers, ofBytes}
 use Rattle.accepted.specs.Accept.{bytes-accepted}
 use Rattle.accepted.specs.Outline.{outlineOf}
 use Rattle.ledger.specs.declared.Call.{Call}
-use Rattle.ledger.specs.Ledger.{Given, Cause, step, wiped, spaceShort, number, first, judged, isOrder}
+use Rattle.ledger.specs.Ledger.{Given, Cause, step, wiped, spaceShort, noSelection, number, first, judged, isOrder}
 use Rattle.ledger.specs.Causes.{first-end, first-applies, first-next}
 use Rattle.ledger.specs.Laws.{SameLedger, alike-wiped, alike-offers}
 use Rattle.ledger.specs.Judging.{or-left, or-right, clear, clear-order, number-short, number-sheet, number-judged, number-offers}
@@ -24,7 +24,7 @@ use Rattle.session.specs.View.{view, Sized}
 use Rattle.session.specs.Steps.{stepped, StepAsks}
 use Rattle.answering.specs.Answer.{Spaces, given, refused, accepted, result, Answers}
 use Rattle.answering.specs.Settle.{Settled}
-use Rattle.answering.specs.TakesStep.{step-asks, shows-step}
+use Rattle.answering.specs.TakesStep.{step-asks, shows-step, selects-step}
 
 -- too short, by lengths
 abbrev pub shortBy : (offers rows memory : ℕ) → Bool
@@ -97,7 +97,7 @@ module _ (c : Call) (s : Session) (d : Sized s) (sheet : List ℕ) (engine : ℕ
     answers-sheet k left o n q = answers-by k s left (rw o (result-refused k n (number-sheet g c (view s) long k n q)))
 
     module _ (z : refusal (ofBytes sheet) ≡ 0) where
-      -- by 15, 7 and 9 to 13
+      -- by 15 or 18, 7 and 9 to 13
       pub answers-judged : (k : ℕ) (left : Spaces) → left .offers ≡ lent .offers → (k ≡ 0 → ⊥) → k ≡ first found
           → Answers c s sheet engine order lent k s left
       answers-judged k left o n q = answers-by k s left (rw o (result-refused k n (number-judged g c (view s) long z k n q)))
@@ -106,6 +106,9 @@ module _ (c : Call) (s : Session) (d : Sized s) (sheet : List ℕ) (engine : ℕ
       module _ (v : first found ≡ 0) where
         pub takes-step : StepAsks c s
         takes-step = step-asks ys (bytes-accepted sheet z) engine order s c (clear (outlineOf ys) c engine order (view s) v)
+
+        pub selects : noSelection (outlineOf ys) (stepped c s .selected) ≡ false
+        selects = selects-step ys (bytes-accepted sheet z) engine order s c (clear (outlineOf ys) c engine order (view s) v)
 
         pub is-order : isOrder (outlineOf ys .fields) order ≡ true
         is-order = clear-order (outlineOf ys) c engine order (view s) (clear (outlineOf ys) c engine order (view s) v)
@@ -116,7 +119,7 @@ module _ (c : Call) (s : Session) (d : Sized s) (sheet : List ℕ) (engine : ℕ
           same-step = rw q (shows-step ys (bytes-accepted sheet z) engine order s c d (clear (outlineOf ys) c engine order (view s) v))
 
           wipes : w ≡ wiped ys (step c (view s))
-          wipes = p .wipes ∙ alike-wiped (view t) (step c (view s)) ys (same-step .held)
+          wipes = p .wipes ∙ alike-wiped (view t) (step c (view s)) ys (same-step .held) (same-step .selected)
 
           pub answers-wiped : w ≡ true → Answers c s sheet engine order lent WIPED-OUT s left
           answers-wiped y = answers-by WIPED-OUT s left (rw (p .offers ∙ pick-true _ _ _ y)
@@ -125,5 +128,5 @@ module _ (c : Call) (s : Session) (d : Sized s) (sheet : List ℕ) (engine : ℕ
           pub answers-accepted : w ≡ false → Answers c s sheet engine order lent 0 t left
           answers-accepted n =
               answers-by 0 t left
-              (rw (p .offers ∙ pick-false _ _ _ n, alike-offers (view t) (step c (view s)) ys (same-step .held), q)
+              (rw (p .offers ∙ pick-false _ _ _ n, alike-offers (view t) (step c (view s)) ys (same-step .held) (same-step .selected), q)
               (result-accepted (sym (number-offers g c (view s) long z v (first-next _ _ _ (sym wipes ∙ n) first-end)))))

@@ -12,12 +12,13 @@ use lib.Pow.{pow-mono}
 use lib.Seq.{getD-set-same, getD-set-other, ext-getD, getD-take, getD-drop, take-at, getD-append-add}
 use borrow.Author.Tests.{ltb-true, ltb-false}
 use Rattle.limits.specs.Limits.{mostFields, mostSettings, offersWords, rowsWords, memoryWords}
-use Rattle.masks.specs.Tests.{never, bool-cases, and-l, someBelow}
-use Rattle.masks.specs.Bits.{bit, bit-of-zero, within-le}
+use Rattle.masks.specs.Tests.{bool-cases, and-l, someBelow}
+use Rattle.masks.specs.Bits.{within-le}
 use Rattle.masks.specs.Masks.{maskOf-lt, keepBits, bit-keepBits}
-use Rattle.masks.specs.Sets.{has, pad, length-pad, getD-pad}
+use Rattle.masks.specs.Sets.{has, pad, length-pad, getD-pad, has-pad}
 use Rattle.masks.specs.Settings.{empty, someEmpty}
 use Rattle.masks.specs.Pick.{pick, pick-true, pick-false}
+use Rattle.consistency.specs.Neighbourhood.{neighbourhood}
 use Rattle.consistency.specs.Offers.{offers, offers-is, wipedOut}
 use Rattle.consistency.specs.Padding.{offers-pad}
 use Rattle.sheet.specs.Sources.{Accepted}
@@ -25,7 +26,7 @@ use Rattle.accepted.specs.declared.outline.Outline.{Outline}
 use Rattle.accepted.specs.Lists.{length-tabulate, getD-tabulate}
 use Rattle.accepted.specs.Parts.{fieldsOf, countOf, reachOf}
 use Rattle.accepted.specs.Facts.{facts}
-use Rattle.accepted.specs.Outline.{outlineOf, full-at}
+use Rattle.accepted.specs.Outline.{outlineOf, outline-few, full-at}
 use Rattle.network.specs.declared.build.Network.{Network}
 use Rattle.network.specs.Tables.{forwardOf, turnedOf}
 use Rattle.network.specs.SheetProblem.{sheetProblem}
@@ -34,8 +35,9 @@ use Rattle.closing.specs.Asks.{Masks}
 use Rattle.engines.specs.Engine.{IsOrder, Engine, Offered}
 use Rattle.engines.specs.EngineAsks.{RunAsks}
 use Rattle.engines.specs.Answers.{run-asks, answers}
-use Rattle.ledger.specs.Ledger.{Decision, Ledger, settings, starts, startSet, offersOf, wiped, isOrder}
+use Rattle.ledger.specs.Ledger.{Decision, Ledger, settings, starts, startSet, offersOf, wiped, noSelection, isOrder}
 use Rattle.ledger.specs.Orders.{order-sized, order-low, order-every}
+use Rattle.ledger.specs.Selection.{selection-low, start-on}
 use Rattle.session.specs.Start.{startMasks, start-padded}
 use Rattle.answering.specs.Answer.{written}
 
@@ -120,12 +122,9 @@ module _ (xs : List ℕ) (a : Accepted xs) (ds : List Decision) where
       (λ q. let e = start-past f (ltb-false f (fieldsOf xs) q) in omega arith)
       (bool-cases (ltb f (fieldsOf xs))))
 
-  start-on : (f v : ℕ) → has padded f v ≡ true → f < fieldsOf xs
-  unfolding has
-  start-on f v b = ⊎-elim (λ q. ltb-true f (fieldsOf xs) q)
-      (λ q. let past = getD-pad (mostFields - fieldsOf xs) S f ∙ start-past f (ltb-false f (fieldsOf xs) q) in
-      absurd (never b (ap (λ (m : ℕ). bit m v) past ∙ bit-of-zero v)))
-      (bool-cases (ltb f (fieldsOf xs)))
+  padded-on : (f v : ℕ) → has padded f v ≡ true → f < fieldsOf xs
+  unfolding sheetProblem
+  padded-on f v b = start-on xs ds f v (sym (has-pad (mostFields - fieldsOf xs) S f v) ∙ b)
 
   -- an order by its test is what the engines ask of an order
   is-order : (order : List ℕ) → isOrder (fieldsOf xs) order ≡ true → IsOrder (fieldsOf xs) order
@@ -150,21 +149,26 @@ module _ (xs : List ℕ) (a : Accepted xs) (l : Ledger) where
   abbrev R₀ : List ℕ
   R₀ = startSet (outlineOf xs) (l .decisions)
 
-  wiped-pad : wipedOut (sheetProblem xs) (reachOf xs) (padded xs a (l .decisions)) ≡ wiped xs l
+  abbrev hood : ℕ → ℕ
+  hood = neighbourhood (sheetProblem xs) (reachOf xs)
+
+  abbrev offered : List ℕ
+  offered = offers (sheetProblem xs) hood (l .selected) R₀
+
+  wiped-pad : wipedOut (sheetProblem xs) hood (l .selected) (padded xs a (l .decisions)) ≡ wiped xs l
   unfolding wipedOut wiped someEmpty empty
   wiped-pad =
       let more = mostFields - fieldsOf xs in
-      rw (offers-pad (sheetProblem xs) (reachOf xs) more R₀)
-      (ap (someBelow (sheetProblem xs .fields))
-      (fun-ext (λ f. ap (λ (m : ℕ). eqb m 0) (getD-pad more (offers (sheetProblem xs) (reachOf xs) R₀) f))))
+      rw (offers-pad (sheetProblem xs) hood (l .selected) more R₀)
+      (ap (someBelow (sheetProblem xs .fields)) (fun-ext (λ f. ap (λ (m : ℕ). eqb m 0) (getD-pad more offered f))))
 
   pub offers-sized : length (offersOf xs l) ≡ fieldsOf xs
   unfolding offersOf
-  offers-sized = offers-is (sheetProblem xs) (reachOf xs) R₀ .sized ∙ start-sized xs a (l .decisions)
+  offers-sized = offers-is (sheetProblem xs) hood (l .selected) R₀ .sized ∙ start-sized xs a (l .decisions)
 
   module _ (m R : List ℕ) (e : m ≡ startMasks (outlineOf xs) (l .decisions)) (t : Bool)
-      (o : Offered (sheetProblem xs) (reachOf xs) m t R) where
-    found : Offered (sheetProblem xs) (reachOf xs) (padded xs a (l .decisions)) t R
+      (o : Offered (sheetProblem xs) (neighbourhood (sheetProblem xs) (reachOf xs)) (l .selected) m t R) where
+    found : Offered (sheetProblem xs) hood (l .selected) (padded xs a (l .decisions)) t R
     found = rw (e ∙ start-is xs a (l .decisions)) at o
 
     pub found-wiped : t ≡ wiped xs l
@@ -172,8 +176,9 @@ module _ (xs : List ℕ) (a : Accepted xs) (l : Ledger) where
 
     pub found-offers : t ≡ false → take (fieldsOf xs) R ≡ offersOf xs l
     unfolding offersOf pad
-    found-offers z = ap (take (fieldsOf xs)) (found .made z ∙ offers-pad (sheetProblem xs) (reachOf xs) (mostFields - fieldsOf xs) R₀)
-        ∙ take-at (offers (sheetProblem xs) (reachOf xs) R₀) _ (fieldsOf xs) offers-sized
+    found-offers z =
+        ap (take (fieldsOf xs)) (found .made z ∙ offers-pad (sheetProblem xs) hood (l .selected) (mostFields - fieldsOf xs) R₀)
+        ∙ take-at offered _ (fieldsOf xs) offers-sized
 
 -- ---- settling
 
@@ -183,11 +188,12 @@ pub record Prepared (xs : List ℕ) (o : Outline) (net : Network) (rows : List �
   pub outline : o ≡ outlineOf xs
   pub network : NetworkOf xs net (forwardOf rows) (turnedOf rows)
 
--- what settling asks: the outline and the network of some sheet, an order of its fields, and room enough
-pub record SettleAsks (o : Outline) (net : Network) (order offers rows memory : List ℕ) : Type 0 where
+-- what settling asks: the outline and the network of some sheet, an order of its fields, a mask that open would take, and room enough
+pub record SettleAsks (o : Outline) (net : Network) (order : List ℕ) (selected : ℕ) (offers rows memory : List ℕ) : Type 0 where
   pub sheet : List ℕ
   pub prepared : Prepared sheet o net rows
   pub ordered : isOrder (o .fields) order ≡ true
+  pub selects : noSelection o selected ≡ false
   pub offers-room : offersWords ≤ length offers
   pub rows-room : rowsWords ≤ length rows
   pub memory-room : memoryWords ≤ length memory
@@ -201,11 +207,13 @@ pub record Settled (xs : List ℕ) (l : Ledger) (before : List ℕ) (w : Bool) (
 abbrev pub SettledOn : Outline → Network → (rows : List ℕ) → Ledger → (before : List ℕ) → Bool → (after : List ℕ) → Type 0
 SettledOn o net rows l before w after = (xs : List ℕ) → Prepared xs o net rows → Settled xs l before w after
 
-module _ (o : Outline) (net : Network) (order offers rows memory : List ℕ) (s : SettleAsks o net order offers rows memory) where
+module _ (o : Outline) (net : Network) (order : List ℕ) (selected : ℕ) (offers rows memory : List ℕ)
+    (s : SettleAsks o net order selected offers rows memory) where
   pub fields-few : o .fields ≤ mostFields
-  fields-few = let p = s .prepared in rw (p .outline) (unfold outlineOf in facts (s .sheet) (p .accepted) .fields-few)
+  fields-few = let p = s .prepared in rw (p .outline) (outline-few (s .sheet) (p .accepted))
 
-  pub settle-asks : (m : List ℕ) (ds : List Decision) → m ≡ startMasks o ds → RunAsks net (forwardOf rows) (turnedOf rows) order m
+  pub settle-asks : (m : List ℕ) (ds : List Decision) → m ≡ startMasks o ds
+      → RunAsks net (forwardOf rows) (turnedOf rows) order selected m
   settle-asks m ds e =
       let p = s .prepared in
       let xs = s .sheet in
@@ -213,17 +221,19 @@ module _ (o : Outline) (net : Network) (order offers rows memory : List ℕ) (s 
       let n : o .fields ≡ fieldsOf xs = rw (p .outline) (unfold outlineOf in refl) in
       let S = pad (mostFields - fieldsOf xs) (startSet (outlineOf xs) ds) in
       let q : m ≡ S = e ∙ rw (p .outline) (start-is xs a ds) in
-      rw q (run-asks xs a net (forwardOf rows) (turnedOf rows) (p .network) order S
-      (is-order xs a ds order (rw n at (s .ordered))) (start-masks xs a ds) (start-on xs a ds))
+      rw q (run-asks xs net (forwardOf rows) (turnedOf rows) (p .network) order selected S
+      (is-order xs a ds order (rw n at (s .ordered))) (rw n at (selection-low o selected (s .selects)))
+      (start-masks xs a ds) (padded-on xs a ds))
 
 module _ (xs : List ℕ) (o : Outline) (net : Network) (rows : List ℕ) (p : Prepared xs o net rows)
     (l : Ledger) (before m R : List ℕ) (w : Bool)
-    (e : m ≡ startMasks o (l .decisions)) (r : Engine (problemIn net (forwardOf rows) (turnedOf rows)) (net .hood) m w R) where
+    (e : m ≡ startMasks o (l .decisions))
+    (r : Engine (problemIn net (forwardOf rows) (turnedOf rows)) (net .hood) (l .selected) m w R) where
   start : m ≡ startMasks (outlineOf xs) (l .decisions)
   start = rw (p .outline) at e
 
-  ran : Offered (sheetProblem xs) (reachOf xs) m w R
-  ran = answers xs (p .accepted) net (forwardOf rows) (turnedOf rows) (p .network) m w R r
+  ran : Offered (sheetProblem xs) (neighbourhood (sheetProblem xs) (reachOf xs)) (l .selected) m w R
+  ran = answers xs net (forwardOf rows) (turnedOf rows) (p .network) (l .selected) m w R r
 
   pub settled-wiped : w ≡ true → Settled xs l before true before
   settled-wiped y = record { wipes = sym y ∙ found-wiped xs (p .accepted) l m R start w ran; offers = sym (pick-true _ _ _ refl) }

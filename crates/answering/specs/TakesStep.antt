@@ -18,7 +18,7 @@ use Rattle.ledger.specs.declared.Event.{Event}
 use Rattle.ledger.specs.declared.Call.{Call}
 use Rattle.ledger.specs.declared.Call.the-variants.{Open, Show, Decide, Back, CoilOn}
 use Rattle.ledger.specs.Ledger.{Decision, changeOf, step}
-use Rattle.ledger.specs.Ledger.{onSheet, revertible, reversible, malformed, offSheet}
+use Rattle.ledger.specs.Ledger.{onSheet, revertible, reversible, noSelection, malformed, offSheet}
 use Rattle.ledger.specs.Kinds.{change-any}
 use Rattle.ledger.specs.Laws.{SameLedger}
 use Rattle.ledger.specs.Judging.{Clear, not-back, well-formed}
@@ -61,7 +61,7 @@ module _ (xs : List ℕ) (a : Accepted xs) where
   module _ (engine : ℕ) (order : List ℕ) (s : Session) where
     few : malformed o (view s) ≡ false → s .count ≤ mostEvents
     unfolding view
-    few e = let w = well-formed o (view s) e .1 in let n = length-past (s .events) (s .count) in omega arith
+    few e = let w = well-formed o (view s) e .few in let n = length-past (s .events) (s .count) in omega arith
 
     -- a decision to add or withdraw is within the masks, and there is room for its event
     record-asks : (e : Event) → Clear o (Decide e) engine order (view s) → RecordAsks e s
@@ -78,12 +78,12 @@ module _ (xs : List ℕ) (a : Accepted xs) where
         let z = eqb-false (s .count) 0 (sym (events-counted s 0) ∙ v .of-step .0) in
         let some : 0 < s .count = omega arith in
         let rest : (revertible o (changeOf (latest s)) (decisionsOf (s .decisions)) && _) ≡ true =
-        rw (past-latest (s .events) (s .count) some) at (well-formed o (view s) (v .of-session .0) .2) in
+        rw (past-latest (s .events) (s .count) some) at (well-formed o (view s) (v .of-session .0) .reverses) in
         let l = revertible-low (latest s) (decisionsOf (s .decisions)) (and-l _ _ rest) in
         record { some = some; few = few (v .of-session .0); field = l .0; position = l .1 }
 
     pub step-asks : (c : Call) → Clear o c engine order (view s) → StepAsks c s
-    step-asks Open v = tt
+    step-asks (Open selected) v = tt
     step-asks Show v = tt
     step-asks (Decide e) v = record-asks e v
     step-asks Back v = undo-asks v
@@ -92,3 +92,17 @@ module _ (xs : List ℕ) (a : Accepted xs) where
     -- the session after the step shows the ledger's step
     pub shows-step : (c : Call) → Sized s → Clear o c engine order (view s) → SameLedger (view (stepped c s)) (step c (view s))
     shows-step c z v = view-step s z c (step-asks c v)
+
+    -- the mask of a session that is not malformed is one that open would take
+    formed : malformed o (view s) ≡ false → noSelection o (s .selected) ≡ false
+    unfolding view
+    formed e = well-formed o (view s) e .selects
+
+    -- and so is that after the step
+    pub selects-step : (c : Call) → Clear o c engine order (view s) → noSelection o (stepped c s .selected) ≡ false
+    unfolding stepped view
+    selects-step (Open selected) v = v .of-session .0
+    selects-step Show v = formed (v .of-session .0)
+    selects-step (Decide e) v = formed (v .of-session .0)
+    selects-step Back v = formed (v .of-session .0)
+    selects-step CoilOn v = formed (v .of-session .0)

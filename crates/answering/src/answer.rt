@@ -23,7 +23,7 @@ fn too_short(offers: usize, rows: usize, memory: usize) -> bool
     (offers < OFFERS_WORDS) | ((rows < ROWS_WORDS) | (memory < MEMORY_WORDS))
 }
 
-// The causes are tried in 01's order: 6; 1 to 5; 15, 7 and 9 to 13; 14. Nothing that the caller keeps changes before the last.
+// The causes are tried in this order: 6; 1 to 5; 15, at open 18; 7 and 9 to 13; 14. Nothing that the caller keeps changes before the last.
 pub fn answer(
     session: Session,
     call: Call,

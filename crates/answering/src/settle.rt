@@ -37,13 +37,22 @@ pub fn settle(
     tables: &[u32],
     memory: &mut [u32],
 ) -> bool
-    requires { ⌜ SettleAsks outline net (now order) (now offers) (now tables) (now memory) ⌝ }
+    requires { ⌜ SettleAsks outline net (now order) (session .selected) (now offers) (now tables) (now memory) ⌝ }
     ensures { λ r. ⌜ SettledOn outline net (now (tables .entry)) (view session) (now (offers .entry)) r (now (offers .exit)) ⌝ }
 {
     let mut m = start(outline, session.decisions);
     let forward = rows::forward(tables);
     let turned = rows::turned(tables);
-    if run(&mut m, memory, engine, order, net, forward, turned) {
+    if run(
+        &mut m,
+        memory,
+        engine,
+        order,
+        session.selected,
+        net,
+        forward,
+        turned,
+    ) {
         return true;
     }
     put(offers, m, outline.fields);

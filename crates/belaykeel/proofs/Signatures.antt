@@ -8,7 +8,7 @@ use Rattle.ledger.specs.Ledger.{decides}
 use Rattle.session.specs.declared.Outcome.{Outcome}
 use Rattle.session.proofs.Outcome as O
 use Rattle.answering.specs.Answer.{spaces, Answers}
-use Rattle.belaykeel.specs.Parameters.{plain, deciding}
+use Rattle.belaykeel.specs.Parameters.{plain, opening, deciding}
 use Rattle.belaykeel.proofs.Outcome.{Returned}
 use Rattle.belaykeel.proofs.Outer.{Says}
 
@@ -25,10 +25,15 @@ numbered = record {
   session = λ r. r .session;
 }
 
--- a call with no field and no position
+-- a call that takes no more than every call does
 abbrev pub answered : Call → Says numbered plain
 answered c session sheet engine order offers rows memory k session′ offers′ rows′ memory′ =
     Answers c session sheet engine order (spaces offers rows memory) k session′ (spaces offers′ rows′ memory′)
+
+-- open
+abbrev pub opened : Says numbered opening
+opened session sheet engine order selected offers rows memory k session′ offers′ rows′ memory′ =
+    Answers (Call.Open selected) session sheet engine order (spaces offers rows memory) k session′ (spaces offers′ rows′ memory′)
 
 -- a call that changes the decisions, by the kind of its event
 abbrev pub decided : ℕ → Says numbered deciding

@@ -3,7 +3,8 @@
 --     AtEntry, AtExit      what takes each parameter at entry, and what takes each `&mut` slice at exit, and gives an X
 --     Passed               the parameters, as a contract has them at entry and at exit
 --     entering, leaving    such a taker at them
---     plain, deciding      the parameters of a call that takes no field and no position, and of one that does
+--     plain                the parameters of a call that takes no more than every call does
+--     opening, deciding    those of open, which takes the mask of the selected fields, and of a call that takes a field and a position
 use mathlib.Core.List.{List, [], _∷_}
 use Prim.Native.Nat.{ℕ}
 use mir.Syntax.{Width, w8, w32}
@@ -45,6 +46,10 @@ leaving (lent w ∷ ks) f x = leaving ks (f (now (x .0))) (x .1)
 -- ---- sheet, engine, order, offers, rows, memory
 abbrev pub plain : List Kind
 plain = shared w8 ∷ number w32 ∷ shared w8 ∷ lent w32 ∷ lent w32 ∷ lent w32 ∷ []
+
+-- sheet, engine, order, selected, offers, rows, memory
+abbrev pub opening : List Kind
+opening = shared w8 ∷ number w32 ∷ shared w8 ∷ number w32 ∷ lent w32 ∷ lent w32 ∷ lent w32 ∷ []
 
 -- sheet, engine, order, field, position, offers, rows, memory
 abbrev pub deciding : List Kind

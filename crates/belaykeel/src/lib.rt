@@ -14,15 +14,25 @@ pub extern "C" fn belaykeel_open(
     sheet: &[u8],
     engine: u32,
     order: &[u8],
+    selected: u32,
     offers: &mut [u32],
     rows: &mut [u32],
     memory: &mut [u32],
 ) -> u32
-    ensures { λ r. ⌜ Answers Call.Open (now (session .entry)) (now (sheet .entry)) engine (now (order .entry))
+    ensures { λ r. ⌜ Answers (Call.Open selected) (now (session .entry)) (now (sheet .entry)) engine (now (order .entry))
         (spaces (now (offers .entry)) (now (rows .entry)) (now (memory .entry)))
         r (now (session .exit)) (spaces (now (offers .exit)) (now (rows .exit)) (now (memory .exit))) ⌝ }
 {
-    let out = calls::open(*session, sheet, engine, order, offers, rows, memory);
+    let out = calls::open(
+        *session,
+        sheet,
+        engine,
+        order,
+        selected,
+        offers,
+        rows,
+        memory,
+    );
     *session = out.session;
     out.number
 }

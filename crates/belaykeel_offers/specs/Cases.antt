@@ -12,7 +12,8 @@ use Rattle.consistency.specs.Largest.{sweep, sweeps, largest}
 use Rattle.consistency.specs.Problem.{allFields}
 use Rattle.consistency.specs.Closing.{partner, supportedBy, supported, closing}
 use Rattle.consistency.specs.Neighbourhood.{widen, fieldsWithin, neighbourhood}
-use Rattle.consistency.specs.Offers.{noneEmpty, passesOver, passes, offers, wipedOut}
+use Rattle.consistency.specs.Passing.{noneEmpty, passesOver}
+use Rattle.consistency.specs.Offers.{isSelected, stays, offers, wipedOut}
 use Rattle.groups.specs.Groups.{groups, numberAt}
 use Rattle.grammar.specs.Grammar.{advance}
 use Rattle.sheet.specs.Sources.{refusalFrom, numbers, items}
@@ -22,8 +23,8 @@ use Rattle.accepted.specs.Outline.{outlineOf}
 use Rattle.accepted.specs.Cases.{D}
 use Rattle.network.specs.SheetProblem.{runs, pairs, sheetProblem}
 use Rattle.ledger.specs.Occurrences.{occurrences}
-use Rattle.ledger.specs.Ledger.{sameDecision, inForce, step, otherChosen, starts, startSet, offersOf, wiped, spaceShort, noEngine}
-use Rattle.ledger.specs.Ledger.{isOrder, first, judged, causes, number}
+use Rattle.ledger.specs.Ledger.{sameDecision, inForce, step, otherChosen, starts, startSet, offersOf, wiped, spaceShort, noSelection}
+use Rattle.ledger.specs.Ledger.{noEngine, isOrder, first, judged, causes, number}
 use Rattle.session.specs.View.{listIn, listed, decisionsOf, past, view}
 use Rattle.answering.specs.Answer.{result}
 use Rattle.printing.specs.Text.{digits, decimal, offered, blankEach, line, lines, refusedLine, text}
@@ -35,8 +36,8 @@ unfoldable computed : List ℕ → List ℕ
 unfolding pageOf text lines line blankEach offered decimal digits refusedLine result view past decisionsOf listed listIn
     number causes judged first isOrder noEngine spaceShort wiped offersOf startSet starts otherChosen step inForce sameDecision
     occurrences sheetProblem pairs runs outlineOf ruleStart fieldStart tabulate items numbers refusalFrom advance numberAt groups
-    wipedOut offers passes passesOver noneEmpty neighbourhood fieldsWithin widen closing supported supportedBy partner allFields
-    largest sweeps sweep pick someEmpty empty cut pad same count only has countBits countIn someBit someIn keepBits keepIn maskOf
+    noSelection wipedOut offers stays isSelected passesOver noneEmpty neighbourhood fieldsWithin widen closing supported supportedBy partner
+    allFields largest sweeps sweep pick someEmpty empty cut pad same count only has countBits countIn someBit someIn keepBits keepIn maskOf
     bit someBelow allBelow
 computed s = pageOf s
 

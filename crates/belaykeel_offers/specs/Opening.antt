@@ -1,4 +1,4 @@
--- What the program asks of the library: the sheet opened by engine 1, the fields in rising order. Assumes nothing.
+-- What the program asks of the library: the sheet opened by engine 1, the fields in rising order and every field selected. Assumes nothing.
 use mathlib.Core.Path.{_≡_, refl, sym, ap, _∙_}
 use mathlib.Core.Bool.{Bool, true, false, _||_}
 use mathlib.Core.List.{List, [], _∷_}
@@ -7,12 +7,14 @@ use native.Mathlib.Omega.{arith}
 use lib.Dec.{eqb}
 use lib.ListN.{length, take}
 use borrow.Author.Tests.{eq-eqb, ne-eqb, le-ltb}
+use Rattle.masks.specs.Masks.{maskOf}
 use Rattle.masks.specs.Pick.{pick-true, pick-false}
 use Rattle.limits.specs.Limits.{mostNumbers, offersWords, rowsWords, memoryWords}
 use Rattle.sheet.specs.Sources.{Accepted, Gives, refusal, numbers, ofBytes, reading, answered}
 use Rattle.accepted.specs.Parts.{fieldsOf}
 use Rattle.accepted.specs.Reads.{read-refused, read-none, read-front, read-ends, front-accepted}
 use Rattle.sheet.specs.declared.answer.Answer.{Answer as Read}
+use Rattle.ledger.specs.declared.Call.{Call}
 use Rattle.ledger.specs.declared.Call.the-variants.{Open}
 use Rattle.ledger.specs.Ledger.{Given, number, spaceShort}
 use Rattle.ledger.specs.Judging.{number-sheet}
@@ -28,19 +30,23 @@ rising = 0 ∷ 1 ∷ 2 ∷ 3 ∷ 4 ∷ 5 ∷ 6 ∷ 7 ∷ 8 ∷ 9 ∷ 10 ∷ 11 �
 abbrev pub givenTo : (sheet : List ℕ) (n words : ℕ) → Given
 givenTo sheet n words = record { sheet = sheet; engine = 1; order = take n rising; offers = words; rows = rowsWords; memory = memoryWords }
 
+-- open with all n fields selected
+abbrev pub openAll : ℕ → Call
+openAll n = Open (maskOf n (λ f. true))
+
 -- What open answers, over the offers list `before`.
 abbrev pub opening : (sheet : List ℕ) (n : ℕ) (before : List ℕ) → CallResult
-opening sheet n before = result (givenTo sheet n (length before)) Open freshSession before
+opening sheet n before = result (givenTo sheet n (length before)) (openAll n) freshSession before
 
 -- The call's promise in these words.
-pub opening-is : (sheet : List ℕ) (n : ℕ) (lent : Spaces) (s : Session) (k : ℕ) (s′ : Session) (left : Spaces)
-    → s ≡ freshSession → length (lent .rows) ≡ rowsWords → length (lent .memory) ≡ memoryWords
-    → Answers Open s sheet 1 (take n rising) lent k s′ left
+pub opening-is : (sheet : List ℕ) (n selected : ℕ) (lent : Spaces) (s : Session) (k : ℕ) (s′ : Session) (left : Spaces)
+    → selected ≡ maskOf n (λ f. true) → s ≡ freshSession → length (lent .rows) ≡ rowsWords → length (lent .memory) ≡ memoryWords
+    → Answers (Open selected) s sheet 1 (take n rising) lent k s′ left
     → (k ≡ opening sheet n (lent .offers) .number) × (left .offers ≡ opening sheet n (lent .offers) .offers)
-opening-is sheet n lent s k s′ left e r m w = (ap (λ (a : CallResult). a .number) same, ap (λ (a : CallResult). a .offers) same)
+opening-is sheet n selected lent s k s′ left a e r m w = (ap (λ (a : CallResult). a .number) same, ap (λ (a : CallResult). a .offers) same)
   where
     same : record { number = k; session = s′; offers = left .offers } ≡ opening sheet n (lent .offers)
-    same = rw (r, m, e) at (w .answers)
+    same = rw (r, m, e, a) at (w .answers)
 
 -- a sheet that is refused by 1 to 5
 pub opening-refused : (sheet : List ℕ) (n : ℕ) (before : List ℕ) → offersWords ≤ length before → (refusal (ofBytes sheet) ≡ 0 → ⊥)
@@ -51,8 +57,8 @@ opening-refused sheet n before l e = rw (sym number-is) (pick-false _ _ _ (ne-eq
     roomy : spaceShort (givenTo sheet n (length before)) ≡ false
     roomy = unfold spaceShort in ap (λ (b : Bool). b || false) (le-ltb (length before) offersWords l)
 
-    number-is : refusal (ofBytes sheet) ≡ number (givenTo sheet n (length before)) Open (view freshSession)
-    number-is = number-sheet (givenTo sheet n (length before)) Open (view freshSession) roomy (refusal (ofBytes sheet)) e refl
+    number-is : refusal (ofBytes sheet) ≡ number (givenTo sheet n (length before)) (openAll n) (view freshSession)
+    number-is = number-sheet (givenTo sheet n (length before)) (openAll n) (view freshSession) roomy (refusal (ofBytes sheet)) e refl
 
 -- the list of the numbers of a sheet
 abbrev pub listOf : List ℕ → List ℕ

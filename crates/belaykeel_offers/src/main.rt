@@ -1,5 +1,5 @@
-// Reads a sheet from standard input, opens it with engine 1 and the fields in rising order, and prints its page: a line for each field with
-// its position and the settings offered, or the number of the refusal.
+// Reads a sheet from standard input, opens it with engine 1, the fields in rising order and every field selected, and prints its page: a
+// line for each field with its position and the settings offered, or the number of the refusal.
 ghost use mathlib.Core.Path.{_≡_};
 ghost use Prim.Native.Nat.{_≤_};
 ghost use lib.ListN.{length, take};
@@ -16,6 +16,7 @@ use limits::MOST_NUMBERS;
 use limits::OFFERS_WORDS;
 use limits::ROWS_WORDS;
 use limits::TEXT_BYTES;
+use network::hoods::all_fields;
 use printing::text;
 use session::fresh;
 use sheet::answer::Answer;
@@ -27,7 +28,7 @@ const INPUT_BYTES: usize = 32768;
 // SAC-1.
 const ENGINE: u32 = 1;
 
-// Opens the sheet with its n fields in rising order.
+// Opens the sheet with its n fields in rising order, all of them selected.
 fn open_rising(sheet: &[u8], n: usize, offers: &mut [u32; OFFERS_WORDS]) -> u32
     requires { ⌜ n ≤ mostFields ⌝ }
     ensures { λ r. ⌜ (r ≡ opening (now (sheet .entry)) n (now (offers .entry)) .number)
@@ -42,6 +43,7 @@ fn open_rising(sheet: &[u8], n: usize, offers: &mut [u32; OFFERS_WORDS]) -> u32
         sheet,
         ENGINE,
         &rising[..n],
+        all_fields(n),
         offers,
         &mut rows,
         &mut memory,

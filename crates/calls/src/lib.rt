@@ -1,5 +1,5 @@
-// The calls, the session by value. Each is given the sheet's bytes, an engine, an order of the fields, the decision that it is about if
-// it is about one, and the spaces that it is lent.
+// The calls, the session by value. Each is given the sheet's bytes, an engine, an order of the fields, if it is open the mask of the
+// selected fields, the decision that it is about if it is about one, and the spaces that it is lent.
 ghost use mathlib.Core.Path.{_≡_};
 ghost use Rattle.ledger.specs.declared.Call.the-variants.{Open, Show, Back, CoilOn};
 ghost use Rattle.ledger.specs.Ledger.{CHOOSE, STRIKE, WITHDRAW-CHOICE, WITHDRAW-STRIKE, decides};
@@ -26,21 +26,22 @@ pub fn decides(kind: u32, field: u32, position: u32) -> Call
     Call::Decide(e)
 }
 
-// The decisions and events are dropped, and the sheet's offers shown.
+// The decisions and events are dropped, the selected fields kept in the session, and the sheet's offers shown.
 pub fn open(
     session: Session,
     sheet: &[u8],
     engine: u32,
     order: &[u8],
+    selected: u32,
     offers: &mut [u32],
     rows: &mut [u32],
     memory: &mut [u32],
 ) -> Outcome
-    ensures { λ r. ⌜ Answers Open session (now (sheet .entry)) engine (now (order .entry))
+    ensures { λ r. ⌜ Answers (Open selected) session (now (sheet .entry)) engine (now (order .entry))
         (spaces (now (offers .entry)) (now (rows .entry)) (now (memory .entry)))
         (r .number) (r .session) (spaces (now (offers .exit)) (now (rows .exit)) (now (memory .exit))) ⌝ }
 {
-    let call = Call::Open;
+    let call = Call::Open(selected);
     answer(session, call, sheet, engine, order, offers, rows, memory)
 }
 

@@ -1,15 +1,15 @@
 // Sessions that no call has made.
 use super::line;
+use super::run::started;
 use super::script::one;
 use super::script::play;
 use ledger::Call;
 use ledger::Event;
 use session::Session;
-use session::fresh;
 
 // Masks of choices and strikes of field 0, a first event, and a count of events.
 fn forged(choices: u32, strikes: u32, event: Event, count: u32) -> Session {
-    let mut s = fresh();
+    let mut s = started();
     let mut d = s.decisions;
     d.choices[0] = choices;
     d.strikes[0] = strikes;
@@ -32,9 +32,16 @@ pub fn overfull() -> Session {
     forged(0, 0, event(0, 0, 0), 65)
 }
 
+// No decisions, no events, and a mask of selected fields.
+fn masked(selected: u32) -> Session {
+    let mut s = started();
+    s.selected = selected;
+    s
+}
+
 // A strike of position 31 in field 23.
 fn far() -> Session {
-    let mut s = fresh();
+    let mut s = started();
     let mut d = s.decisions;
     d.strikes[23] = 2147483648;
     s.decisions = d;
@@ -81,14 +88,32 @@ fn decisions() {
     one(Call::Show, far(), 1);
 }
 
+// Show of a session with a mask of selected fields, by engine 0 and by engine 1: 15 comes before 7.
+fn selects(selected: u32) {
+    line::text(b"selected ");
+    line::number(selected);
+    line::text(b", ");
+    one(Call::Show, masked(selected), 0);
+    play(masked(selected), 1, b"h.. c01 b.. n.. o.1 ");
+}
+
+fn selections() {
+    line::heading(b"-- 15, or not: selected fields");
+    selects(0);
+    selects(4);
+    selects(7);
+    selects(4294967295);
+    selects(2);
+}
+
 // Each call; open skips 15.
 fn counts() {
     line::heading(b"-- 15, before 7: count 65");
     play(overfull(), 1, b"h.. c01 s02 C01 S02 b.. n.. ");
-    play(overfull(), 0, b"h.. o.. ");
-    play(overfull(), 1, b"o.. ");
+    play(overfull(), 0, b"h.. o.3 ");
+    play(overfull(), 1, b"o.3 ");
     line::heading(b"-- 15: the largest count");
-    play(forged(0, 0, event(0, 0, 0), 4294967295), 1, b"h.. o.. ");
+    play(forged(0, 0, event(0, 0, 0), 4294967295), 1, b"h.. o.3 ");
 }
 
 // Wiped out before the call; 14 goes by what would hold after it.
@@ -104,5 +129,6 @@ pub fn cases() {
     counts();
     events();
     decisions();
+    selections();
     wiped_out();
 }

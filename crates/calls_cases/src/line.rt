@@ -44,7 +44,9 @@ pub fn answered(answer: u32, offers: &[u32; OFFERS_WORDS], session: Session) {
     number(offers[2]);
     two(choices[0], choices[1]);
     two(strikes[0], strikes[1]);
-    named(b" |", session.count);
+    text(b" | ");
+    number(session.count);
+    named(b" |", session.selected);
 }
 
 // How many words are not what all were before.

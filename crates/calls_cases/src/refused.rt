@@ -3,10 +3,12 @@ ghost use Prim.Native.Nat.{_≤_};
 ghost use Rattle.limits.specs.Limits.{offersWords, rowsWords, memoryWords};
 use super::forged::overfull;
 use super::line;
+use super::run::BOTH;
 use super::run::decides;
 use super::run::long_list;
 use super::run::on_d;
 use super::run::on_sheet;
+use super::run::started;
 use super::script::one;
 use answering::answer::answer;
 use ledger::CHOOSE;
@@ -23,7 +25,7 @@ use session::fresh;
 fn short_call(name: &[u8], offers: &mut [u32], rows: &mut [u32], memory: &mut [u32]) {
     let out = answer(
         fresh(),
-        Call::Open,
+        Call::Open(BOTH),
         b"\x80\x00",
         0,
         b"",
@@ -61,7 +63,7 @@ fn spaces() {
     short(b"memory of 13823: ", OFFERS_WORDS, ROWS_WORDS, 13823);
     short(b"no words: ", 0, 0, 0);
     line::heading(b"-- an offers list of 30 words");
-    long_list(b"open: ", Call::Open);
+    long_list(b"open: ", Call::Open(BOTH));
     long_list(b"choose 0/0: ", decides(CHOOSE, 0, 0));
 }
 
@@ -90,7 +92,7 @@ fn sheets() {
 fn near(name: &[u8], engine: u32, order: &[u8]) {
     line::text(name);
     on_sheet(
-        Call::Open,
+        Call::Open(BOTH),
         fresh(),
         b"\x02\x03\x64\xC8\x01\xAC\x02\x03\x64\xC8\x01\xAC\x02\x01\x01\x00\x01\x01\x64",
         engine,
@@ -109,7 +111,7 @@ fn reaches() {
 // Open with an order.
 fn order(name: &[u8], engine: u32, order: &[u8]) {
     line::text(name);
-    on_d(Call::Open, fresh(), engine, order);
+    on_d(Call::Open(BOTH), fresh(), engine, order);
 }
 
 fn orders() {
@@ -121,24 +123,24 @@ fn orders() {
     order(b"0 2", 3, b"\x00\x02");
     order(b"0 1 0", 1, b"\x00\x01\x00");
     line::text(b"choose 0/0, 1 1");
-    on_d(decides(CHOOSE, 0, 0), fresh(), 1, b"\x01\x01");
+    on_d(decides(CHOOSE, 0, 0), started(), 1, b"\x01\x01");
 }
 
 fn engine(x: u32) {
     line::text(b"engine ");
     line::number(x);
     line::text(b", ");
-    one(Call::Show, fresh(), x);
+    one(Call::Show, started(), x);
 }
 
 fn arguments() {
     line::heading(b"-- 7");
-    one(decides(STRIKE, 2, 0), fresh(), 1);
-    one(decides(STRIKE, 0, 3), fresh(), 1);
-    one(decides(CHOOSE, 24, 0), fresh(), 1);
-    one(decides(CHOOSE, 0, 4294967295), fresh(), 1);
-    one(decides(WITHDRAW_STRIKE, 0, 32), fresh(), 1);
-    one(decides(WITHDRAW_CHOICE, 4294967295, 0), fresh(), 1);
+    one(decides(STRIKE, 2, 0), started(), 1);
+    one(decides(STRIKE, 0, 3), started(), 1);
+    one(decides(CHOOSE, 24, 0), started(), 1);
+    one(decides(CHOOSE, 0, 4294967295), started(), 1);
+    one(decides(WITHDRAW_STRIKE, 0, 32), started(), 1);
+    one(decides(WITHDRAW_CHOICE, 4294967295, 0), started(), 1);
     engine(0);
     engine(4);
     engine(4294967295);

@@ -15,6 +15,16 @@ pub const OFFERS_BEFORE: u32 = 9;
 
 pub const ROOM_BEFORE: u32 = 4294967295;
 
+// The mask of both fields of sheet D.
+pub const BOTH: u32 = 3;
+
+// A session as open leaves it: no decisions, no events, both fields of sheet D selected.
+pub fn started() -> Session {
+    let mut s = fresh();
+    s.selected = BOTH;
+    s
+}
+
 // A call that changes the decisions, by the kind of its event.
 pub fn decides(kind: u32, field: u32, position: u32) -> Call {
     Call::Decide(Event {
@@ -87,7 +97,7 @@ pub fn quiet(what: Call, s: Session) -> Session {
 // With an offers list of 30 words: how many change.
 pub fn long_list(name: &[u8], what: Call) {
     let mut offers = [OFFERS_BEFORE; 30];
-    let out = call_d(what, fresh(), &mut offers);
+    let out = call_d(what, started(), &mut offers);
     line::text(name);
     line::number(out.number);
     line::space(&offers, OFFERS_BEFORE);

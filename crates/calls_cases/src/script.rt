@@ -1,4 +1,5 @@
-// Calls one after another, written as text. A call has four bytes: a letter, the digits of a field and a position, and a blank.
+// Calls one after another, written as text. A call has four bytes: a letter, the digits of a field and a position, and a blank. The second
+// digit of open is the mask of the selected fields.
 use super::line;
 use super::run::decides;
 use super::run::on_d;
@@ -13,7 +14,7 @@ use session::Session;
 // o open, h show, c choose, s strike, C withdraw choice, S withdraw strike, b back, n coil-on.
 fn call_of(letter: u8, f: u32, v: u32) -> Call {
     match letter {
-        b'o' => Call::Open,
+        b'o' => Call::Open(v),
         b'c' => decides(CHOOSE, f, v),
         b's' => decides(STRIKE, f, v),
         b'C' => decides(WITHDRAW_CHOICE, f, v),
@@ -46,7 +47,10 @@ fn decision(e: Event) {
 // The call's name, with the setting of its decision.
 pub fn name(call: Call) {
     match call {
-        Call::Open => line::text(b"open"),
+        Call::Open(selected) => {
+            line::text(b"open ");
+            line::number(selected)
+        }
         Call::Show => line::text(b"show"),
         Call::Decide(e) => decision(e),
         Call::Back => line::text(b"back"),

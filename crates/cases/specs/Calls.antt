@@ -1,14 +1,16 @@
 -- The sheets and calls that the cases speak of. Assumes nothing.
+use mathlib.Core.Bool.{true}
 use mathlib.Core.List.{List, [], _∷_, _++_}
 use Prim.Native.Nat.{ℕ}
 use Rattle.limits.specs.Limits.{offersWords, rowsWords, memoryWords}
+use Rattle.masks.specs.Masks.{maskOf}
 use Rattle.sheet.specs.Sources.{numbers, ofBytes}
 use Rattle.accepted.specs.Lists.{tabulate}
 use Rattle.accepted.specs.Parts.{fieldsOf}
 use Rattle.ledger.specs.declared.Call.{Call}
 use Rattle.ledger.specs.Ledger.{Given, Ledger, number, after}
 
--- a sheet opened with engine 1, in rising order, with spaces just long enough
+-- engine 1, the fields of a sheet in rising order, and spaces just long enough
 abbrev pub given : List ℕ → Given
 given sheet = record {
   sheet = sheet;
@@ -18,6 +20,13 @@ given sheet = record {
   rows = rowsWords;
   memory = memoryWords;
 }
+
+-- the selected fields of a sheet: every field, or those of a mask
+abbrev pub every : List ℕ → ℕ
+every sheet = maskOf (fieldsOf (numbers (ofBytes sheet))) (λ f. true)
+
+abbrev pub these : ℕ → List ℕ → ℕ
+these selected sheet = selected
 
 -- the numbers of calls one after the other, and the ledger after the last
 unfoldable pub answers : Given → Ledger → List Call → List ℕ
@@ -54,7 +63,19 @@ three reach = 3 ∷ 2 ∷ 1 ∷ 2 ∷ 2 ∷ 1 ∷ 2 ∷ 2 ∷ 1 ∷ 2 ∷ reach 
 abbrev pub threeAndOne : ℕ → List ℕ
 threeAndOne reach = 4 ∷ 2 ∷ 1 ∷ 2 ∷ 2 ∷ 1 ∷ 2 ∷ 2 ∷ 1 ∷ 2 ∷ 2 ∷ 1 ∷ 2 ∷ reach ∷ 3 ∷ 0 ∷ 1 ∷ 3 ∷ 1 ∷ 0 ∷ 2 ∷ 3 ∷ 1 ∷ 1 ∷ 2 ∷ 3 ∷ 1 ∷ []
 
--- five such fields in a ring
+-- fields {1, 2, 3}, {1, 2, 3}, {1, 2}, {1, 2} at reach 1, of which all pairs but the first two differ
+abbrev pub twoOverTwo : List ℕ
+twoOverTwo =
+    4 ∷ 3 ∷ 1 ∷ 2 ∷ 3 ∷ 3 ∷ 1 ∷ 2 ∷ 3 ∷ 2 ∷ 1 ∷ 2 ∷ 2 ∷ 1 ∷ 2 ∷ 1
+    ∷ 5 ∷ 0 ∷ 2 ∷ 3 ∷ 1 ∷ 0 ∷ 3 ∷ 3 ∷ 1 ∷ 1 ∷ 2 ∷ 3 ∷ 1 ∷ 1 ∷ 3 ∷ 3 ∷ 1 ∷ 2 ∷ 3 ∷ 3 ∷ 1 ∷ []
+
+-- fields {1, 2, 3}, {1, 2}, {1, 2} at reach 1 that all differ, and a fourth {1, 2, 3} equal to the first
+abbrev pub threeAndCopy : List ℕ
+threeAndCopy =
+    4 ∷ 3 ∷ 1 ∷ 2 ∷ 3 ∷ 2 ∷ 1 ∷ 2 ∷ 2 ∷ 1 ∷ 2 ∷ 3 ∷ 1 ∷ 2 ∷ 3 ∷ 1
+    ∷ 4 ∷ 0 ∷ 1 ∷ 3 ∷ 1 ∷ 0 ∷ 2 ∷ 3 ∷ 1 ∷ 0 ∷ 3 ∷ 4 ∷ 0 ∷ 1 ∷ 2 ∷ 3 ∷ 1 ∷ []
+
+-- five fields {1, 2} in a ring, joined ones of kind 3 with c 1, at a reach
 abbrev pub five : ℕ → List ℕ
 five reach =
     5 ∷ 2 ∷ 1 ∷ 2 ∷ 2 ∷ 1 ∷ 2 ∷ 2 ∷ 1 ∷ 2 ∷ 2 ∷ 1 ∷ 2 ∷ 2 ∷ 1 ∷ 2 ∷ reach

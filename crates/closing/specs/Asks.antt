@@ -18,7 +18,7 @@ use Rattle.masks.specs.Sets.{has, ⊆-trans}
 use Rattle.masks.specs.Settings.{cut, cut-⊆, length-cut, lose, lose-⊆, lose-by, lose-set, length-lose, empty, empty-at, empty-by, empty-not}
 use Rattle.consistency.specs.Problem.{Problem, allFields, in-allFields}
 use Rattle.consistency.specs.Closing.{closing, closing-is}
-use Rattle.consistency.specs.Offers.{NoneEmpty, noneEmpty, noneEmpty-at}
+use Rattle.consistency.specs.Passing.{NoneEmpty, noneEmpty, noneEmpty-at}
 use Rattle.network.specs.Tables.{problemOf, Wired}
 use Rattle.closing.specs.Shrunk.{or-within, one-within, Small, small-⊆, Shrunk, shrunk-then, shrunk-set}
 use Rattle.closing.specs.Close.{Ready, Closes}

@@ -17,7 +17,7 @@ use Rattle.masks.specs.Sets.{has, has-mask, _⊆_, only, length-only, only-⊆,
 use Rattle.masks.specs.Settings.{empty, empty-at, empty-by}
 use Rattle.consistency.specs.Problem.{Problem, In}
 use Rattle.consistency.specs.Closing.{Partner, partner, partner-at, partner-by, Closed, closing, closing-is, closing-self, closing-between}
-use Rattle.consistency.specs.Offers.{NoneEmpty, noneEmpty, noneEmpty-at, noneEmpty-by}
+use Rattle.consistency.specs.Passing.{NoneEmpty, noneEmpty, noneEmpty-at, noneEmpty-by}
 use Rattle.closing.specs.Shrunk.{or-not, or-within, Shrunk, shrunk-none, shrunk-then, shrunk-measure}
 
 module _ (P : Problem) where

@@ -3,7 +3,7 @@ use mathlib.Core.Path.{_≡_, refl, sym, ap, ap₂, _∙_}
 use mathlib.Core.Logic.{⊎-elim}
 use mathlib.Core.Bool.{Bool, true, false, not}
 use mathlib.Core.List.{List}
-use Prim.Native.Nat.{ℕ, _^_, _≤_, _<_}
+use Prim.Native.Nat.{ℕ, _^_}
 use lib.ListN.{length, getD}
 use borrow.Author.Tests.{eq-eqb, not-true, not-false}
 use Rattle.masks.specs.Tests.{never, not-so, bool-cases, eq-cases}
@@ -13,21 +13,18 @@ use Rattle.masks.specs.Sets.{has, has-mask, _⊆_}
 use Rattle.masks.specs.Settings.{cut, cut-⊆, cut-at, cut-by, length-cut, lose, lose-⊆, lose-by, lose-at, empty, empty-at}
 use Rattle.masks.specs.Settings.{empty-not, someEmpty}
 use Rattle.masks.specs.Restrict.{restrict-⊆, restrict-at}
-use Rattle.consistency.specs.Problem.{Problem, allFields, in-allFields}
+use Rattle.consistency.specs.Problem.{Problem, In, OnFields, allFields, in-allFields}
 use Rattle.consistency.specs.Closing.{Closed, closing, closing-is}
-use Rattle.consistency.specs.Neighbourhood.{neighbourhood}
-use Rattle.consistency.specs.Offers.{NoneEmpty, noneEmpty, noneEmpty-at, noneEmpty-by, noneEmpty-mono, left, passesOver}
-use Rattle.consistency.specs.Offers.{passes, offers, offers-is, offers-lose}
-use Rattle.consistency.specs.Offers.{offers-between, wipedOut, wipedOut-by}
+use Rattle.consistency.specs.Passing.{NoneEmpty, noneEmpty, noneEmpty-at, noneEmpty-by, noneEmpty-mono, left, passesOver}
 use Rattle.consistency.specs.Left.{passes-still}
-use Rattle.consistency.specs.Order.{offers-in-closing}
+use Rattle.consistency.specs.Offers.{offers, offers-is, offers-lose, offers-in-closing, offers-between, wipedOut, wipedOut-by}
 use Rattle.closing.specs.Shrunk.{Shrunk}
 use Rattle.closing.specs.Close.{Ready, Closes}
 
 module _ (P : Problem) where
   -- A set that an engine works on: settings of the problem's fields only, closed over every field, no field empty.
   pub record Live (S : List ℕ) : Type 0 where
-    pub on : (f v : ℕ) → has S f v ≡ true → f < P .fields
+    pub on : OnFields P S
     pub shut : Closed P (allFields P) S
     pub full : NoneEmpty P (allFields P) S
 
@@ -95,37 +92,43 @@ module _ (P : Problem) where
 
   -- ---- the offers stay the same
 
-  -- for every reach at which W is f's neighbourhood
-  abbrev pub Reaches : ℕ → ℕ → (ℕ → Type 0) → Type 0
-  Reaches W f A = (k : ℕ) → 1 ≤ k → W ≡ neighbourhood P k f → A k
+  -- for whatever neighbourhoods and selected fields, where W is f's neighbourhood and f is selected
+  abbrev pub WhereTested : ℕ → ℕ → ((ℕ → ℕ) → ℕ → Type 0) → Type 0
+  WhereTested W f A = (hood : ℕ → ℕ) (selected : ℕ) → hood f ≡ W → In P selected f → A hood selected
 
-  -- a set that holds the offers and, closed over every field, has an empty one: wiped out
-  pub wiped-by : (k : ℕ) (S U : List ℕ) → offers P k S ⊆ U → noneEmpty P (allFields P) U ≡ false → wipedOut P k S ≡ true
-  wiped-by k S U h e =
-      ⊎-elim (λ q. q)
-      (λ q. absurd (never (noneEmpty-by P (allFields P) U (noneEmpty-mono P (allFields P) (offers P k S) U h
-      (λ g i. not-so (empty (offers P k S) g) (λ z. never (wipedOut-by P k S (offers P k S) g (i .0) (λ f v x. x) z) q)))) e))
-      (bool-cases (wipedOut P k S))
+  module _ (hood : ℕ → ℕ) (selected : ℕ) where
+    abbrev offered : List ℕ → List ℕ
+    offered = offers P hood selected
 
-  -- equal offers, equally wiped out
-  pub wiped-same : (k : ℕ) (S R : List ℕ) → offers P k S ≡ offers P k R → wipedOut P k S ≡ true → wipedOut P k R ≡ true
-  unfolding wipedOut
-  wiped-same k S R e w = ap (someEmpty (P .fields)) (sym e) ∙ w
+    -- a set that holds the offers and, closed over every field, has an empty one: wiped out
+    pub wiped-by : (S U : List ℕ) → offers P hood selected S ⊆ U → noneEmpty P (allFields P) U ≡ false → wipedOut P hood selected S ≡ true
+    wiped-by S U h e =
+        ⊎-elim (λ q. q)
+        (λ q. absurd (never (noneEmpty-by P (allFields P) U (noneEmpty-mono P (allFields P) (offered S) U h
+        (λ g i. not-so (empty (offered S) g) (λ z. never (wipedOut-by P hood selected S (offered S) g (i .0) (λ f v x. x) z) q)))) e))
+        (bool-cases (wipedOut P hood selected S))
+
+    -- equal offers, equally wiped out
+    pub wiped-same : (S R : List ℕ) → offers P hood selected S ≡ offers P hood selected R → wipedOut P hood selected S ≡ true
+        → wipedOut P hood selected R ≡ true
+    unfolding wipedOut
+    wiped-same S R e w = ap (someEmpty (P .fields)) (sym e) ∙ w
 
   module _ (W : ℕ) (S : List ℕ) (f v : ℕ) (fails : passesOver P W S f v ≡ false) where
-    offers-in-rest : Reaches W f (λ k. offers P k S ⊆ closing P (allFields P) (lose S f v))
-    unfolding passes
-    offers-in-rest k o w =
-        offers-in-closing P k o S (lose S f v)
-        (offers-lose P k S S (offers-is P k S .inside) f v (ap (λ (Z : ℕ). passesOver P Z S f v) (sym w) ∙ fails))
+    offers-in-rest : WhereTested W f (λ hood selected. offers P hood selected S ⊆ closing P (allFields P) (lose S f v))
+    offers-in-rest hood selected w i =
+        offers-in-closing P hood selected S (lose S f v)
+        (offers-lose P hood selected S S (offers-is P hood selected S .inside) f v i (ap (λ (Z : ℕ). passesOver P Z S f v) w ∙ fails))
 
     module _ (wiped : Bool) (touched : ℕ) (R : List ℕ) (r : Removed S f v wiped touched R) where
-      pub removed-none : wiped ≡ true → Reaches W f (λ k. wipedOut P k S ≡ true)
-      removed-none e k o w = wiped-by k S _ (offers-in-rest k o w) (not-true _ (sym (r .wipes) ∙ e))
+      pub removed-none : wiped ≡ true → WhereTested W f (λ hood selected. wipedOut P hood selected S ≡ true)
+      removed-none e hood selected w i =
+          wiped-by hood selected S _ (offers-in-rest hood selected w i) (not-true _ (sym (r .wipes) ∙ e))
 
       module _ (e : wiped ≡ false) where
-        pub removed-steady : Reaches W f (λ k. offers P k R ≡ offers P k S)
-        removed-steady k o w = offers-between P k S R (r .sized) (rw (r .made e) (offers-in-rest k o w)) (r .shrunk e .inside)
+        pub removed-steady : WhereTested W f (λ hood selected. offers P hood selected R ≡ offers P hood selected S)
+        removed-steady hood selected w i =
+            offers-between P hood selected S R (r .sized) (rw (r .made e) (offers-in-rest hood selected w i)) (r .shrunk e .inside)
 
         pub removed-live : Live S → Live R
         removed-live l = record {

@@ -63,7 +63,7 @@ module _ (P : Problem) where
       (λ g h. ⇒-by (bit W g && P .joined f g) _ (λ j. partner-by S f v g
       (s (ltb-true f (P .fields) (and-l _ _ i), and-r (ltb f (P .fields)) _ i) g (h, and-l _ _ j) (and-r (bit W g) _ j)))))
 
-  supported-mono : (W : ℕ) → Monotone (supported W)
+  pub supported-mono : (W : ℕ) → Monotone (supported W)
   supported-mono W S R h f v e =
       supported-by W R f v (λ i g j k. let s = supported-at W S f v e i g j k in (s .0, h g (s .0) (s .1), s .2))
 

@@ -12,7 +12,7 @@ use Rattle.masks.specs.Restrict.{restrict, length-restrict, restrict-⊆, restr
 use Rattle.consistency.specs.Problem.{Problem}
 use Rattle.consistency.specs.Closing.{closing-is, closing-mono}
 use Rattle.consistency.specs.Neighbourhood.{neighbourhood}
-use Rattle.consistency.specs.Offers.{left, passesOver, passesOver-at, passesOver-by, Witness, witness-at, witness-by, passes}
+use Rattle.consistency.specs.Passing.{left, passesOver, passesOver-at, passesOver-by, Witness, witness-at, witness-by}
 
 module _ (P : Problem) where
   -- what the test of position v of field f over W leaves in the fields of W, and nothing of other fields
@@ -61,8 +61,7 @@ module _ (P : Problem) where
   passesOver-again W S T f v n h e t = (passes-still W S T f v e t, leaves-just W S T f v e t n h)
 
   -- At every reach: W is f's neighbourhood.
-  pub passes-again : (k : ℕ) (S T : List ℕ) (f v : ℕ) → length T ≡ length S → T ⊆ S → passes P k S f v ≡ true
-      → leftIn (neighbourhood P k f) S f v ⊆ T
-      → (passes P k T f v ≡ true) × (leftIn (neighbourhood P k f) T f v ≡ leftIn (neighbourhood P k f) S f v)
-  unfolding passes
+  pub passes-again : (k : ℕ) (S T : List ℕ) (f v : ℕ) → length T ≡ length S → T ⊆ S
+      → passesOver P (neighbourhood P k f) S f v ≡ true → leftIn (neighbourhood P k f) S f v ⊆ T
+      → (passesOver P (neighbourhood P k f) T f v ≡ true) × (leftIn (neighbourhood P k f) T f v ≡ leftIn (neighbourhood P k f) S f v)
   passes-again k S T f v = passesOver-again (neighbourhood P k f) S T f v

@@ -3,8 +3,10 @@ pub mod Runs
 pub mod Problem
 pub mod Closing
 pub mod Neighbourhood
-pub mod Offers
+pub mod Passing
 pub mod Left
+pub mod Offers
+pub mod AllSelected
 pub mod Order
 pub mod SetUps
 pub mod Padding

@@ -1,167 +1,164 @@
--- The test of a setting, the offers of a set, wiped out: singleton arc consistency over neighbourhoods. Assumes nothing.
-use mathlib.Core.Path.{_≡_, ap}
+-- The offers of a set under a mask of selected fields, and wiped out (02, request 7). Assumes nothing.
+--
+-- `hood` gives each field the mask of the fields that its test is over: at reach k (01) it is `neighbourhood P k`. `selected` is the mask
+-- of the selected fields. Every law holds for any two.
+use mathlib.Core.Path.{_≡_}
 use mathlib.Core.Logic.{_↔_}
-use mathlib.Core.Bool.{Bool, true, false, not}
+use mathlib.Core.Bool.{Bool, true, false, _&&_}
 use mathlib.Core.List.{List}
 use Prim.Native.Nat.{ℕ, _<_}
+use lib.Dec.{ltb}
 use lib.ListN.{length}
-use borrow.Author.Tests.{not-true}
-use Rattle.masks.specs.Tests.{never, not-so, _⇒_, ⇒-at, ⇒-by, allBelow, allBelow-at, allBelow-by}
+use borrow.Author.Tests.{ltb-true, lt-ltb}
+use Rattle.masks.specs.Tests.{never, not-so, and-l, and-r, and-by, _⇒_, ⇒-at, ⇒-by}
 use Rattle.masks.specs.Bits.{bit}
 use Rattle.masks.specs.Sets.{has, _⊆_}
-use Rattle.masks.specs.Settings.{cut, cut-⊆, cut-mono, lose, empty, empty-at, empty-by, empty-not, someEmpty, someEmpty-at, someEmpty-by}
+use Rattle.masks.specs.Settings.{lose, empty, empty-at, empty-by, someEmpty, someEmpty-at, someEmpty-by}
 use Rattle.consistency.specs.Largest.{IsLargest, IsLargest-mono, IsLargest-iff, IsLargest-unique, Test, Monotone}
 use Rattle.consistency.specs.Largest.{AllPass, largest, largest-is}
 use Rattle.consistency.specs.Runs.{largest-lose, largest-done, largest-between, Run, run-largest}
-use Rattle.consistency.specs.Problem.{Problem, In}
-use Rattle.consistency.specs.Closing.{Closed, closing, closing-is, closing-mono}
-use Rattle.consistency.specs.Neighbourhood.{neighbourhood}
+use Rattle.consistency.specs.Problem.{Problem, In, allFields}
+use Rattle.consistency.specs.Closing.{Closed, supported, supported-at, supported-by, supported-mono, closing, closing-is}
+use Rattle.consistency.specs.Passing.{PassesOver, passesOver, passesOver-at, passesOver-by, passesOver-mono, passing-full}
 
 module _ (P : Problem) where
-  -- ---- no field of a mask is empty
+  -- ---- what the offers are the largest of
 
-  abbrev pub NoneEmpty : ℕ → List ℕ → Type 0
-  NoneEmpty W S = (g : ℕ) → In P W g → empty S g ≡ false
+  -- Closed over every field, and every setting of a selected field passes its test.
+  pub record Consistent (hood : ℕ → ℕ) (selected : ℕ) (S : List ℕ) : Type 0 where
+    pub shut : Closed P (allFields P) S
+    pub passing : (f v : ℕ) → In P selected f → has S f v ≡ true → PassesOver P (hood f) S f v
 
-  unfoldable pub noneEmpty : ℕ → List ℕ → Bool
-  noneEmpty W S = allBelow (P .fields) (λ g. bit W g ⇒ not (empty S g))
+  -- the same as a test of one setting: it is supported and, where its field is selected, passes
+  unfoldable pub isSelected : ℕ → ℕ → Bool
+  isSelected selected f = ltb f (P .fields) && bit selected f
 
-  pub noneEmpty-at : (W : ℕ) (S : List ℕ) → noneEmpty W S ≡ true → NoneEmpty W S
-  unfolding noneEmpty
-  noneEmpty-at W S e g i =
-      not-true (empty S g) (⇒-at (bit W g) _ (allBelow-at (P .fields) (λ g. bit W g ⇒ not (empty S g)) e g (i .0)) (i .1))
+  unfoldable pub stays : (ℕ → ℕ) → ℕ → Test
+  stays hood selected S f v =
+      let own = passesOver P (hood f) S f v in
+      let asked = isSelected selected f ⇒ own in
+      supported P (allFields P) S f v && asked
 
-  pub noneEmpty-by : (W : ℕ) (S : List ℕ) → NoneEmpty W S → noneEmpty W S ≡ true
-  unfolding noneEmpty
-  noneEmpty-by W S h = allBelow-by (P .fields) _ (λ g l. ⇒-by (bit W g) _ (λ w. ap not (h g (l, w))))
+  selected-at : (selected f : ℕ) → isSelected selected f ≡ true → In P selected f
+  unfolding isSelected
+  selected-at selected f e = (ltb-true f (P .fields) (and-l _ _ e), and-r (ltb f (P .fields)) _ e)
 
-  -- none is empty in a larger set either
-  pub noneEmpty-mono : (W : ℕ) (S R : List ℕ) → S ⊆ R → NoneEmpty W S → NoneEmpty W R
-  noneEmpty-mono W S R h n g i =
-      let s = empty-not S g (n g i) in
-      not-so (empty R g) (λ e. never (h g (s .0) (s .1)) (empty-at R g (s .0) e))
+  selected-by : (selected f : ℕ) → In P selected f → isSelected selected f ≡ true
+  unfolding isSelected
+  selected-by selected f i = and-by _ _ (lt-ltb f (P .fields) (i .0)) (i .1)
 
-  -- ---- the test of position v of field f in S, over the fields of the mask W
+  module _ (hood : ℕ → ℕ) (selected : ℕ) where
+    abbrev test : Test
+    test = stays hood selected
 
-  -- what is left: f cut to v, closed over W
-  abbrev pub left : ℕ → List ℕ → ℕ → ℕ → List ℕ
-  left W S f v = closing P W (cut S f v)
+    stays-supported : (S : List ℕ) (f v : ℕ) → test S f v ≡ true → supported P (allFields P) S f v ≡ true
+    unfolding stays
+    stays-supported S f v e = and-l _ _ e
 
-  abbrev pub PassesOver : ℕ → List ℕ → ℕ → ℕ → Type 0
-  PassesOver W S f v = NoneEmpty W (left W S f v)
+    stays-passes : (S : List ℕ) (f v : ℕ) → In P selected f → test S f v ≡ true → passesOver P (hood f) S f v ≡ true
+    unfolding stays
+    stays-passes S f v i e =
+        ⇒-at (isSelected selected f) _ (and-r (supported P (allFields P) S f v) _ e) (selected-by selected f i)
 
-  -- the same as a test
-  unfoldable pub passesOver : ℕ → Test
-  passesOver W S f v = noneEmpty W (closing P W (cut S f v))
+    stays-by : (S : List ℕ) (f v : ℕ) → supported P (allFields P) S f v ≡ true
+        → (In P selected f → passesOver P (hood f) S f v ≡ true) → test S f v ≡ true
+    unfolding stays
+    stays-by S f v s p = and-by _ _ s (⇒-by (isSelected selected f) _ (λ q. p (selected-at selected f q)))
 
-  pub passesOver-at : (W : ℕ) (S : List ℕ) (f v : ℕ) → passesOver W S f v ≡ true → PassesOver W S f v
-  unfolding passesOver
-  passesOver-at W S f v = noneEmpty-at W (left W S f v)
+    stays-mono : Monotone test
+    stays-mono S R h f v e =
+        stays-by R f v (supported-mono P (allFields P) S R h f v (stays-supported S f v e))
+        (λ i. passesOver-mono P (hood f) S R h f v (stays-passes S f v i e))
 
-  pub passesOver-by : (W : ℕ) (S : List ℕ) (f v : ℕ) → PassesOver W S f v → passesOver W S f v ≡ true
-  unfolding passesOver
-  passesOver-by W S f v = noneEmpty-by W (left W S f v)
+    all-stay : (S : List ℕ) → AllPass test S ↔ Consistent hood selected S
+    all-stay S = (
+      λ p. record {
+        shut = λ f v e. supported-at P (allFields P) S f v (stays-supported S f v (p f v e));
+        passing = λ f v i e. passesOver-at P (hood f) S f v (stays-passes S f v i (p f v e));
+      },
+      λ c f v e. stays-by S f v (supported-by P (allFields P) S f v (c .shut f v e))
+          (λ i. passesOver-by P (hood f) S f v (c .passing f v i e)),
+    )
 
-  -- What shows that a setting passes: a part of the cut set, closed over W, with no field of W empty.
-  pub record Witness (W : ℕ) (S : List ℕ) (f v : ℕ) (R : List ℕ) : Type 0 where
-    pub inside : R ⊆ cut S f v
-    pub shut : Closed P W R
-    pub full : NoneEmpty W R
+  -- ---- the offers: the largest consistent part
 
-  pub witness-at : (W : ℕ) (S : List ℕ) (f v : ℕ) → PassesOver W S f v → Witness W S f v (left W S f v)
-  witness-at W S f v p = let c = closing-is P W (cut S f v) in record { inside = c .inside; shut = c .good; full = p }
+  unfoldable pub offers : (ℕ → ℕ) → ℕ → List ℕ → List ℕ
+  offers hood selected S = largest (stays hood selected) S
 
-  pub witness-by : (W : ℕ) (S : List ℕ) (f v : ℕ) (R : List ℕ) → Witness W S f v R → PassesOver W S f v
-  witness-by W S f v R w = noneEmpty-mono W R (left W S f v) (closing-is P W (cut S f v) .most R (w .inside) (w .shut)) (w .full)
+  -- wiped out (01): some field of the offers is empty, selected or not
+  unfoldable pub wipedOut : (ℕ → ℕ) → ℕ → List ℕ → Bool
+  wipedOut hood selected S = someEmpty (P .fields) (offers hood selected S)
 
-  passesOver-mono : (W : ℕ) → Monotone (passesOver W)
-  passesOver-mono W S R h f v e =
-      passesOver-by W R f v
-      (noneEmpty-mono W (left W S f v) (left W R f v) (closing-mono P W (cut S f v) (cut R f v) (cut-mono S R f v h))
-      (passesOver-at W S f v e))
+  module _ (hood : ℕ → ℕ) (selected : ℕ) where
+    abbrev Good : List ℕ → Type 0
+    Good = Consistent hood selected
 
-  -- ---- the test at reach k (01): over f's neighbourhood. Passed when no neighbourhood field is empty.
+    abbrev found : List ℕ → List ℕ
+    found = offers hood selected
 
-  abbrev pub Passes : ℕ → List ℕ → ℕ → ℕ → Type 0
-  Passes k S f v = PassesOver (neighbourhood P k f) S f v
+    pub offers-is : (S : List ℕ) → IsLargest (Consistent hood selected) S (offers hood selected S)
+    unfolding offers
+    offers-is S = IsLargest-iff (AllPass (test hood selected)) Good (all-stay hood selected) S _
+        (largest-is (test hood selected) (stays-mono hood selected) S)
 
-  unfoldable pub passes : ℕ → Test
-  passes k S f v = let W = neighbourhood P k f in passesOver W S f v
+    pub offers-unique : (S L : List ℕ) → IsLargest (Consistent hood selected) S L → offers hood selected S ≡ L
+    offers-unique S L l = IsLargest-unique Good S (found S) L (offers-is S) l
 
-  pub passes-at : (k : ℕ) (S : List ℕ) (f v : ℕ) → passes k S f v ≡ true → Passes k S f v
-  unfolding passes
-  passes-at k S f v = passesOver-at (neighbourhood P k f) S f v
+    pub offers-mono : (S R : List ℕ) → S ⊆ R → offers hood selected S ⊆ offers hood selected R
+    offers-mono S R h = IsLargest-mono Good S R (found S) (found R) h (offers-is S) (offers-is R)
 
-  pub passes-by : (k : ℕ) (S : List ℕ) (f v : ℕ) → Passes k S f v → passes k S f v ≡ true
-  unfolding passes
-  passes-by k S f v = passesOver-by (neighbourhood P k f) S f v
+    pub offers-between : (S U : List ℕ) → length U ≡ length S → offers hood selected S ⊆ U → U ⊆ S
+        → offers hood selected U ≡ offers hood selected S
+    unfolding offers
+    offers-between = largest-between (test hood selected) (stays-mono hood selected)
 
-  pub passes-mono : (k : ℕ) → Monotone (passes k)
-  unfolding passes
-  passes-mono k S R h f v = passesOver-mono (neighbourhood P k f) S R h f v
+    -- ---- what an engine uses
 
-  -- ---- the offers (01): the largest part in which every setting passes its test in that part
+    -- a setting of a selected field that fails in a set that holds the offers is no offer
+    pub offers-lose : (S U : List ℕ) → offers hood selected S ⊆ U → (f v : ℕ) → In P selected f → passesOver P (hood f) U f v ≡ false
+        → offers hood selected S ⊆ lose U f v
+    unfolding offers
+    offers-lose S U h f v i e =
+        largest-lose (test hood selected) (stays-mono hood selected) S U h f v
+        (not-so (test hood selected U f v) (λ q. never (stays-passes hood selected U f v i q) e))
 
-  abbrev pub EachPasses : ℕ → List ℕ → Type 0
-  EachPasses k S = (f v : ℕ) → has S f v ≡ true → Passes k S f v
+    -- what holds the offers holds them when it is closed too, so closing first alters none
+    pub offers-in-closing : (S U : List ℕ) → offers hood selected S ⊆ U → offers hood selected S ⊆ closing P (allFields P) U
+    offers-in-closing S U h = closing-is P (allFields P) U .most (found S) h (offers-is S .good .shut)
 
-  pub all-passes : (k : ℕ) (S : List ℕ) → AllPass (passes k) S ↔ EachPasses k S
-  all-passes k S = (λ p f v e. passes-at k S f v (p f v e), λ p f v e. passes-by k S f v (p f v e))
+    pub offers-of-closing : (S : List ℕ) → offers hood selected (closing P (allFields P) S) ≡ offers hood selected S
+    offers-of-closing S =
+        let c = closing-is P (allFields P) S in
+        offers-between S (closing P (allFields P) S) (c .sized) (offers-in-closing S S (offers-is S .inside)) (c .inside)
 
-  unfoldable pub offers : ℕ → List ℕ → List ℕ
-  offers k S = largest (passes k) S
+    -- a consistent part that holds the offers is the offers
+    pub offers-done : (S U : List ℕ) → length U ≡ length S → offers hood selected S ⊆ U → U ⊆ S → Consistent hood selected U
+        → U ≡ offers hood selected S
+    unfolding offers
+    offers-done S U e h i c = largest-done (test hood selected) (stays-mono hood selected) S U e h i (all-stay hood selected U .1 c)
 
-  pub offers-is : (k : ℕ) (S : List ℕ) → IsLargest (EachPasses k) S (offers k S)
-  unfolding offers
-  offers-is k S = IsLargest-iff (AllPass (passes k)) (EachPasses k) (all-passes k) S _ (largest-is (passes k) (passes-mono k) S)
+    -- whatever its order, a run that loses unsupported and failing settings and ends in a consistent set has reached the offers
+    pub offers-run : {S R : List ℕ} → Run (stays hood selected) S R → Consistent hood selected R → R ≡ offers hood selected S
+    unfolding offers
+    offers-run {R = R} r c = run-largest (test hood selected) (stays-mono hood selected) r (all-stay hood selected R .1 c)
 
-  pub offers-unique : (k : ℕ) (S L : List ℕ) → IsLargest (EachPasses k) S L → offers k S ≡ L
-  offers-unique k S L l = IsLargest-unique (EachPasses k) S (offers k S) L (offers-is k S) l
+    -- ---- wiped out
 
-  pub offers-mono : (k : ℕ) (S R : List ℕ) → S ⊆ R → offers k S ⊆ offers k R
-  offers-mono k S R h = IsLargest-mono (EachPasses k) S R (offers k S) (offers k R) h (offers-is k S) (offers-is k R)
+    pub wipedOut-at : (S : List ℕ) → wipedOut hood selected S ≡ true
+        → (f : ℕ) × (f < P .fields) × (empty (offers hood selected S) f ≡ true)
+    unfolding wipedOut
+    wipedOut-at S = someEmpty-at (P .fields) (found S)
 
-  pub offers-between : (k : ℕ) (S U : List ℕ) → length U ≡ length S → offers k S ⊆ U → U ⊆ S → offers k U ≡ offers k S
-  unfolding offers
-  offers-between k = largest-between (passes k) (passes-mono k)
+    -- a set that holds the offers and has an empty field shows it
+    pub wipedOut-by : (S U : List ℕ) (f : ℕ) → f < P .fields → offers hood selected S ⊆ U → empty U f ≡ true
+        → wipedOut hood selected S ≡ true
+    unfolding wipedOut
+    wipedOut-by S U f l h e =
+        someEmpty-by (P .fields) (found S) f l (empty-by (found S) f (λ v i. never (h f v i) (empty-at U f v e)))
 
-  -- ---- what an engine uses
-
-  -- a setting that fails in a set that holds the offers is no offer
-  pub offers-lose : (k : ℕ) (S U : List ℕ) → offers k S ⊆ U → (f v : ℕ) → passes k U f v ≡ false → offers k S ⊆ lose U f v
-  unfolding offers
-  offers-lose k = largest-lose (passes k) (passes-mono k)
-
-  -- a part that holds the offers, and in which every setting passes, is the offers
-  pub offers-done : (k : ℕ) (S U : List ℕ) → length U ≡ length S → offers k S ⊆ U → U ⊆ S → EachPasses k U → U ≡ offers k S
-  unfolding offers
-  offers-done k S U e h i p = largest-done (passes k) (passes-mono k) S U e h i (all-passes k U .1 p)
-
-  -- whatever its order, a run that loses failing settings and ends where every setting passes has reached the offers
-  pub offers-run : (k : ℕ) {S R : List ℕ} → Run (passes k) S R → EachPasses k R → R ≡ offers k S
-  unfolding offers
-  offers-run k {R = R} r p = run-largest (passes k) (passes-mono k) r (all-passes k R .1 p)
-
-  -- ---- wiped out (01): some field of the offers is empty
-
-  unfoldable pub wipedOut : ℕ → List ℕ → Bool
-  wipedOut k S = someEmpty (P .fields) (offers k S)
-
-  pub wipedOut-at : (k : ℕ) (S : List ℕ) → wipedOut k S ≡ true → (f : ℕ) × (f < P .fields) × (empty (offers k S) f ≡ true)
-  unfolding wipedOut
-  wipedOut-at k S = someEmpty-at (P .fields) (offers k S)
-
-  -- a set that holds the offers and has an empty field shows it
-  pub wipedOut-by : (k : ℕ) (S U : List ℕ) (f : ℕ) → f < P .fields → offers k S ⊆ U → empty U f ≡ true → wipedOut k S ≡ true
-  unfolding wipedOut
-  wipedOut-by k S U f l h e =
-      someEmpty-by (P .fields) (offers k S) f l (empty-by (offers k S) f (λ v i. never (h f v i) (empty-at U f v e)))
-
-  -- a field with no offer leaves none to the fields whose neighbourhood it is in
-  pub offers-wipe : (k : ℕ) (S : List ℕ) (f v g : ℕ) → In P (neighbourhood P k f) g → empty (offers k S) g ≡ true
-      → has (offers k S) f v ≡ false
-  offers-wipe k S f v g i z =
-      not-so (has (offers k S) f v) (λ e.
-      let w = witness-at (neighbourhood P k f) (offers k S) f v (offers-is k S .good f v e) in
-      let s = empty-not (left (neighbourhood P k f) (offers k S) f v) g (w .full g i) in
-      never (cut-⊆ (offers k S) f v g (s .0) (w .inside g (s .0) (s .1))) (empty-at (offers k S) g (s .0) z))
+    -- a field with no offer leaves none to the selected fields whose neighbourhood it is in
+    pub offers-wipe : (S : List ℕ) (f v g : ℕ) → In P selected f → In P (hood f) g → empty (offers hood selected S) g ≡ true
+        → has (offers hood selected S) f v ≡ false
+    offers-wipe S f v g i j z =
+        not-so (has (found S) f v) (λ e.
+        never z (passing-full P (hood f) (found S) f v (offers-is S .good .passing f v i e) g j))

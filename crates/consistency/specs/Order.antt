@@ -1,61 +1,66 @@
--- How closing and offers at different reaches lie inside one another. Assumes nothing.
+-- How the offers under different selections and at different reaches lie inside one another. Assumes nothing.
 use mathlib.Core.Path.{_≡_, sym, ap, _∙_}
-use mathlib.Core.Bool.{true}
 use mathlib.Core.List.{List}
-use Prim.Native.Nat.{ℕ, suc, _≤_}
+use Prim.Native.Nat.{ℕ, _≤_}
 use native.Mathlib.Decide.{le-ind}
-use Rattle.masks.specs.Sets.{has, _⊆_, ⊆-refl, ⊆-trans}
-use Rattle.masks.specs.Settings.{cut-⊆, cut-at, empty-not}
-use Rattle.consistency.specs.Largest.{IsLargest-stricter}
-use Rattle.consistency.specs.Problem.{Problem, allFields}
-use Rattle.consistency.specs.Closing.{Closed, closing, closing-is, closed-wider}
-use Rattle.consistency.specs.Neighbourhood.{neighbourhood, neighbourhood-self, neighbourhood-joined, neighbourhood-more}
-use Rattle.consistency.specs.Offers.{Passes, EachPasses, left, witness-at, witness-by, offers, offers-is, offers-between}
+use Rattle.masks.specs.Tests.{never}
+use Rattle.masks.specs.Bits.{bit, bit-of-zero, Within}
+use Rattle.masks.specs.Sets.{_⊆_, ⊆-antisymm}
+use Rattle.consistency.specs.Largest.{IsLargest-stricter, IsLargest-iff}
+use Rattle.consistency.specs.Problem.{Problem, In, allFields}
+use Rattle.consistency.specs.Closing.{Closed, closing, closing-is}
+use Rattle.consistency.specs.Neighbourhood.{neighbourhood, neighbourhood-more}
+use Rattle.consistency.specs.Passing.{passing-wider}
+use Rattle.consistency.specs.Offers.{Consistent, offers, offers-is, offers-unique}
 
 module _ (P : Problem) where
-  -- ---- a set in which every setting passes is closed, so closing first loses nothing
+  -- ---- more selected fields and wider neighbourhoods ask more, so they offer no more
 
-  pub passing-closed : (k : ℕ) → 1 ≤ k → (S : List ℕ) → EachPasses P k S → Closed P (allFields P) S
-  passing-closed k o S p f v e i g j q =
-      let W = neighbourhood P k f in
-      let w = witness-at P W S f v (p f v e) in
-      let self = neighbourhood-self P k f (i .0) in
-      let s = empty-not (left P W S f v) f (w .full f self) in
-      let here : has (left P W S f v) f v ≡ true = ap (λ (y : ℕ). has (left P W S f v) f y)
-      (sym (cut-at S f v (s .0) (w .inside f (s .0) (s .1)))) ∙ s .1 in
-      let c = w .shut f v here self g (neighbourhood-joined P k f g o (i .0) (j .0) q) q in
-      (c .0, cut-⊆ S f v g (c .0) (w .inside g (c .0) (c .1)), c .2)
+  -- for the fields that are selected, `wide` has what `hood` has
+  abbrev Wider : ℕ → (ℕ → ℕ) → (ℕ → ℕ) → Type 0
+  Wider selected hood wide = (f : ℕ) → In P selected f → Within (hood f) (wide f)
 
-  pub offers-closed : (k : ℕ) → 1 ≤ k → (S : List ℕ) → Closed P (allFields P) (offers P k S)
-  offers-closed k o S = passing-closed k o (offers P k S) (offers-is P k S .good)
+  module _ (hood wide : ℕ → ℕ) (selected more : ℕ) (h : Within selected more) (n : Wider selected hood wide) where
+    consistent-less : (S : List ℕ) → Consistent P wide more S → Consistent P hood selected S
+    consistent-less S c = record {
+      shut = c .shut;
+      passing = λ f v i e. passing-wider P (hood f) (wide f) (n f i) S f v (c .passing f v (i .0, h f (i .1)) e);
+    }
 
-  pub offers-in-closing : (k : ℕ) → 1 ≤ k → (S U : List ℕ) → offers P k S ⊆ U → offers P k S ⊆ closing P (allFields P) U
-  offers-in-closing k o S U h = closing-is P (allFields P) U .most (offers P k S) h (offers-closed k o S)
+    offers-less : (S : List ℕ) → offers P wide more S ⊆ offers P hood selected S
+    offers-less S =
+        IsLargest-stricter (Consistent P wide more) (Consistent P hood selected) consistent-less S
+        (offers P wide more S) (offers P hood selected S) (offers-is P wide more S) (offers-is P hood selected S)
 
-  pub offers-of-closing : (k : ℕ) → 1 ≤ k → (S : List ℕ) → offers P k (closing P (allFields P) S) ≡ offers P k S
-  offers-of-closing k o S =
-      let c = closing-is P (allFields P) S in
-      offers-between P k S (closing P (allFields P) S) (c .sized) (offers-in-closing k o S S (offers-is P k S .inside)) (c .inside)
+  -- THE THEOREM: a selection that includes another offers no setting that the other doesn't (02, request 7).
+  pub offers-more-selected : (hood : ℕ → ℕ) (selected more : ℕ) → Within selected more → (S : List ℕ)
+      → offers P hood more S ⊆ offers P hood selected S
+  offers-more-selected hood selected more h = offers-less hood hood selected more h (λ f i v e. e)
+
+  -- with no field selected the offers are the closing
+  pub offers-none-selected : (hood : ℕ → ℕ) (S : List ℕ) → offers P hood 0 S ≡ closing P (allFields P) S
+  offers-none-selected hood S =
+      offers-unique P hood 0 S (closing P (allFields P) S) (IsLargest-iff (Closed P (allFields P)) (Consistent P hood 0)
+      (λ R. (λ c. record { shut = c; passing = λ f v i e. absurd (never (i .1) (bit-of-zero f)) }, λ c. c .shut)) S _
+      (closing-is P (allFields P) S))
+
+  -- only the neighbourhoods of selected fields matter
+  pub offers-same-hoods : (hood wide : ℕ → ℕ) (selected : ℕ) → ((f : ℕ) → In P selected f → hood f ≡ wide f) → (S : List ℕ)
+      → offers P hood selected S ≡ offers P wide selected S
+  offers-same-hoods hood wide selected q S =
+      ⊆-antisymm (offers P hood selected S) (offers P wide selected S)
+      (offers-is P hood selected S .sized ∙ sym (offers-is P wide selected S .sized))
+      (offers-less wide hood selected selected (λ f e. e) (λ f i v e. ap (λ (W : ℕ). bit W v) (q f i) ∙ e) S)
+      (offers-less hood wide selected selected (λ f e. e) (λ f i v e. ap (λ (W : ℕ). bit W v) (sym (q f i)) ∙ e) S)
 
   -- ---- a larger reach offers no more
 
-  pub passes-nearer : (k : ℕ) (S : List ℕ) (f v : ℕ) → Passes P (suc k) S f v → Passes P k S f v
-  passes-nearer k S f v p =
-      let Z = neighbourhood P (suc k) f in
-      let w = witness-at P Z S f v p in
-      let n = neighbourhood-more P k f in
-      witness-by P (neighbourhood P k f) S f v (left P Z S f v) (record {
-        inside = w .inside;
-        shut = closed-wider P (neighbourhood P k f) Z n (left P Z S f v) (w .shut);
-        full = λ g i. w .full g (i .0, n g (i .1));
-      })
+  neighbourhood-wider : (k j : ℕ) → k ≤ j → (f : ℕ) → Within (neighbourhood P k f) (neighbourhood P j f)
+  neighbourhood-wider k j h f =
+      le-ind (λ (m : ℕ). Within (neighbourhood P k f) (neighbourhood P m f)) (λ v e. e)
+      (λ m l i v e. neighbourhood-more P m f v (i v e)) j h
 
-  offers-nearer : (k : ℕ) (S : List ℕ) → offers P (suc k) S ⊆ offers P k S
-  offers-nearer k S =
-      IsLargest-stricter (EachPasses P (suc k)) (EachPasses P k) (λ R p f v e. passes-nearer k R f v (p f v e)) S
-      (offers P (suc k) S) (offers P k S) (offers-is P (suc k) S) (offers-is P k S)
-
-  pub offers-reach : (k j : ℕ) → k ≤ j → (S : List ℕ) → offers P j S ⊆ offers P k S
-  offers-reach k j h S =
-      le-ind (λ (m : ℕ). offers P m S ⊆ offers P k S) (⊆-refl (offers P k S))
-      (λ m l i. ⊆-trans (offers P (suc m) S) (offers P m S) (offers P k S) (offers-nearer m S) i) j h
+  pub offers-reach : (k j : ℕ) → k ≤ j → (selected : ℕ) (S : List ℕ)
+      → offers P (neighbourhood P j) selected S ⊆ offers P (neighbourhood P k) selected S
+  offers-reach k j h selected =
+      offers-less (neighbourhood P k) (neighbourhood P j) selected selected (λ f e. e) (λ f i. neighbourhood-wider k j h f)

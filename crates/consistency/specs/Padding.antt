@@ -30,5 +30,6 @@ module _ (P : Problem) where
   pub closing-pad : (W n : ℕ) (S : List ℕ) → closing P W (pad n S) ≡ pad n (closing P W S)
   closing-pad W = pad-commutes (closing P W) (λ S. closing-is P W S .sized) (closing-mono P W)
 
-  pub offers-pad : (k n : ℕ) (S : List ℕ) → offers P k (pad n S) ≡ pad n (offers P k S)
-  offers-pad k = pad-commutes (offers P k) (λ S. offers-is P k S .sized) (offers-mono P k)
+  pub offers-pad : (hood : ℕ → ℕ) (selected n : ℕ) (S : List ℕ) → offers P hood selected (pad n S) ≡ pad n (offers P hood selected S)
+  offers-pad hood selected =
+      pad-commutes (offers P hood selected) (λ S. offers-is P hood selected S .sized) (offers-mono P hood selected)

@@ -10,8 +10,8 @@ use Rattle.masks.specs.Sets.{has, _⊆_, only, only-⊆, only-at, only-by}
 use Rattle.masks.specs.Settings.{cut-by, empty, empty-at}
 use Rattle.consistency.specs.Problem.{Problem, SetUp}
 use Rattle.consistency.specs.Closing.{Closed, closing, closing-is}
-use Rattle.consistency.specs.Neighbourhood.{neighbourhood}
-use Rattle.consistency.specs.Offers.{EachPasses, witness-by, offers, offers-is, wipedOut, wipedOut-at}
+use Rattle.consistency.specs.Passing.{PassesOver, witness-by}
+use Rattle.consistency.specs.Offers.{Consistent, offers, offers-is, wipedOut, wipedOut-at}
 
 module _ (P : Problem) (S : List ℕ) (a : ℕ → ℕ) (up : SetUp P S a) where
   chosen : ℕ → ℕ → Bool
@@ -40,23 +40,28 @@ module _ (P : Problem) (S : List ℕ) (a : ℕ → ℕ) (up : SetUp P S a) where
       let q = picked-at f v e in
       (a g, picked-by g (j .0), rw (q .1) (up .agrees f g (i .0) (j .0) k))
 
-  picked-passes : (k : ℕ) → EachPasses P k picked
-  picked-passes k f v e =
-      witness-by P (neighbourhood P k f) picked f v picked (record {
+  picked-passes : (W f v : ℕ) → has picked f v ≡ true → PassesOver P W picked f v
+  picked-passes W f v e =
+      witness-by P W picked f v picked (record {
         inside = λ g u h. cut-by picked f v g u h (λ q. picked-at g u h .1 ∙ ap a q ∙ sym (picked-at f v e .1));
-        shut = picked-closed _;
+        shut = picked-closed W;
         full = λ g i. not-so (empty picked g) (λ z. never (picked-by g (i .0)) (empty-at picked g (a g) z));
       })
 
   pub set-up-closing : (W f : ℕ) → f < P .fields → has (closing P W S) f (a f) ≡ true
   set-up-closing W f h = closing-is P W S .most picked picked-⊆ (picked-closed W) f (a f) (picked-by f h)
 
-  pub set-up-offered : (k f : ℕ) → f < P .fields → has (offers P k S) f (a f) ≡ true
-  set-up-offered k f h = offers-is P k S .most picked picked-⊆ (picked-passes k) f (a f) (picked-by f h)
+  -- whatever is selected
+  module _ (hood : ℕ → ℕ) (selected : ℕ) where
+    picked-consistent : Consistent P hood selected picked
+    picked-consistent = record { shut = picked-closed _; passing = λ f v i e. picked-passes (hood f) f v e }
 
-  -- so where the set is wiped out there is no complete set-up
-  pub set-up-not-wiped : (k : ℕ) → wipedOut P k S ≡ false
-  set-up-not-wiped k =
-      not-so (wipedOut P k S) (λ e.
-      let w = wipedOut-at P k S e in
-      never (set-up-offered k (w .0) (w .1)) (empty-at (offers P k S) (w .0) (a (w .0)) (w .2)))
+    pub set-up-offered : (f : ℕ) → f < P .fields → has (offers P hood selected S) f (a f) ≡ true
+    set-up-offered f h = offers-is P hood selected S .most picked picked-⊆ picked-consistent f (a f) (picked-by f h)
+
+    -- so where the set is wiped out there is no complete set-up
+    pub set-up-not-wiped : wipedOut P hood selected S ≡ false
+    set-up-not-wiped =
+        not-so (wipedOut P hood selected S) (λ e.
+        let w = wipedOut-at P hood selected S e in
+        never (set-up-offered (w .0) (w .1)) (empty-at (offers P hood selected S) (w .0) (a (w .0)) (w .2)))

@@ -1,31 +1,31 @@
 -- What the engines answer on the network of a sheet, and that they answer the same. Assumes nothing.
-use mathlib.Core.Path.{_≡_, sym, _∙_}
+use mathlib.Core.Path.{_≡_, sym, ap, _∙_}
 use mathlib.Core.Bool.{Bool, true, false}
 use mathlib.Core.List.{List}
 use Prim.Native.Nat.{ℕ, _<_}
 use lib.ListN.{getD}
+use Rattle.masks.specs.Bits.{bit}
 use Rattle.masks.specs.Sets.{has}
+use Rattle.masks.specs.Settings.{someEmpty}
 use Rattle.consistency.specs.Problem.{Problem, in-allFields}
 use Rattle.consistency.specs.Neighbourhood.{neighbourhood, neighbourhood-bound, neighbourhood-self, neighbourhood-symmetric}
-use Rattle.sheet.specs.Sources.{Accepted}
+use Rattle.consistency.specs.Offers.{wipedOut}
+use Rattle.consistency.specs.Order.{offers-same-hoods}
 use Rattle.accepted.specs.Parts.{fieldsOf, reachOf}
-use Rattle.accepted.specs.Facts.{facts}
 use Rattle.network.specs.declared.build.Network.{Network}
 use Rattle.network.specs.Tables.{problemOf}
 use Rattle.network.specs.SheetProblem.{sheetProblem, sheet-symmetric}
 use Rattle.network.specs.Network.{problemIn, NetworkOf}
 use Rattle.closing.specs.Asks.{Masks}
-use Rattle.engines.specs.Engine.{IsOrder, At, Hoods, Offered, Engine}
+use Rattle.engines.specs.Engine.{IsOrder, Hoods, hoodIn, Offered, Engine}
 use Rattle.engines.specs.EngineAsks.{RunAsks}
 
 -- Whichever engine and order: the same answer.
-pub same-answer : (P : Problem) (hood S : List ℕ) (k : ℕ) → At P hood k → (wiped wiped' : Bool) (R R' : List ℕ)
-    → Engine P hood S wiped R → Engine P hood S wiped' R' → (wiped ≡ wiped') × (wiped ≡ false → R ≡ R')
-same-answer P hood S k t wiped wiped' R R' a b =
-    let x = a k t in
-    let y = b k t in
-    let same = x .wipes ∙ sym (y .wipes) in
-    (same, λ e. x .made e ∙ sym (y .made (sym same ∙ e)))
+pub same-answer : (P : Problem) (hood : List ℕ) (selected : ℕ) (S : List ℕ) (wiped wiped' : Bool) (R R' : List ℕ)
+    → Engine P hood selected S wiped R → Engine P hood selected S wiped' R' → (wiped ≡ wiped') × (wiped ≡ false → R ≡ R')
+same-answer P hood selected S wiped wiped' R R' a b =
+    let same = a .wipes ∙ sym (b .wipes) in
+    (same, λ e. a .made e ∙ sym (b .made (sym same ∙ e)))
 
 -- masks that are the neighbourhoods at a reach are what the engines ask
 hoods-at : (xs hood : List ℕ) → ((f : ℕ) → f < sheetProblem xs .fields → getD hood f 0 ≡ neighbourhood (sheetProblem xs) (reachOf xs) f)
@@ -38,7 +38,7 @@ hoods-at xs hood e = record {
 
 -- ---- the network of an accepted sheet: it may be built once, and engines run on it many times
 
-module _ (xs : List ℕ) (a : Accepted xs) (net : Network) (forward turned : List ℕ) (t : NetworkOf xs net forward turned) where
+module _ (xs : List ℕ) (net : Network) (forward turned : List ℕ) (t : NetworkOf xs net forward turned) where
   near : (f : ℕ) → f < sheetProblem xs .fields → getD (net .hood) f 0 ≡ neighbourhood (sheetProblem xs) (reachOf xs) f
   unfolding sheetProblem
   near f h = t .near f (rw (t .fields) h)
@@ -47,19 +47,27 @@ module _ (xs : List ℕ) (a : Accepted xs) (net : Network) (forward turned : Lis
   pub network-hoods : Hoods (problemIn net forward turned) (net .hood)
   network-hoods = rw (t .problem) (hoods-at xs (net .hood) near)
 
-  pub network-at : At (problemIn net forward turned) (net .hood) (reachOf xs)
-  network-at = rw (t .problem) (record { least = facts xs a .reach-some; near = near })
-
-  -- What `run` asks, from an order of the sheet's fields and a set with settings of these fields only.
-  pub run-asks : (order S : List ℕ) → IsOrder (fieldsOf xs) order → Masks S → ((f v : ℕ) → has S f v ≡ true → f < fieldsOf xs)
-      → RunAsks net forward turned order S
+  -- What `run` asks, from an order of the sheet's fields, a mask of these and a set with settings of these fields only.
+  pub run-asks : (order : List ℕ) (selected : ℕ) (S : List ℕ) → IsOrder (fieldsOf xs) order
+      → ((f : ℕ) → bit selected f ≡ true → f < fieldsOf xs) → Masks S → ((f v : ℕ) → has S f v ≡ true → f < fieldsOf xs)
+      → RunAsks net forward turned order selected S
   unfolding problemOf
-  run-asks order S visits masks on = (
+  run-asks order selected S visits low masks on = (
     record { wired = t .wired; masks = masks; on = λ f v h. rw (t .fields) (on f v h) },
-    record { visits = rw (t .fields) visits; hoods = network-hoods },
+    record {
+      visits = rw (t .fields) visits;
+      selected-fields = λ f b. in-allFields (problemIn net forward turned) f (rw (t .fields) (low f b)) .1;
+      hoods = network-hoods;
+    },
   )
 
-  -- An engine on the network of a sheet answers with the sheet's offers at its reach.
-  pub answers : (S : List ℕ) (wiped : Bool) (R : List ℕ) → Engine (problemIn net forward turned) (net .hood) S wiped R
-      → Offered (sheetProblem xs) (reachOf xs) S wiped R
-  answers S wiped R e = rw (t .problem) at (e (reachOf xs) network-at)
+  -- An engine on the network of a sheet answers with the sheet's offers at its reach, under the same selected fields.
+  pub answers : (selected : ℕ) (S : List ℕ) (wiped : Bool) (R : List ℕ)
+      → Engine (problemIn net forward turned) (net .hood) selected S wiped R
+      → Offered (sheetProblem xs) (neighbourhood (sheetProblem xs) (reachOf xs)) selected S wiped R
+  unfolding wipedOut hoodIn
+  answers selected S wiped R e =
+      let P = sheetProblem xs in
+      let own : Engine P (net .hood) selected S wiped R = rw (t .problem) at e in
+      let same = offers-same-hoods P (hoodIn (net .hood)) (neighbourhood P (reachOf xs)) selected (λ f i. near f (i .0)) S in
+      record { wipes = own .wipes ∙ ap (someEmpty (P .fields)) same; made = λ z. own .made z ∙ same }

@@ -2,7 +2,7 @@
 use mathlib.Core.Path.{_≡_, refl, sym, ap, _∙_}
 use mathlib.Core.Bool.{Bool, true, false, true≢false}
 use mathlib.Core.List.{List}
-use Prim.Native.Nat.{ℕ, _≤_, _<_}
+use Prim.Native.Nat.{ℕ, _<_}
 use lib.Bits.{bitOr}
 use lib.ListN.{length, getD}
 use borrow.Author.Tests.{not-true, not-false}
@@ -11,12 +11,11 @@ use Rattle.masks.specs.Bits.{bit, bit-of-zero, Within}
 use Rattle.masks.specs.Sets.{has, _⊆_}
 use Rattle.masks.specs.Settings.{empty, someEmpty, someEmpty-at, someEmpty-by}
 use Rattle.consistency.specs.Largest.{IsLargest-self}
-use Rattle.consistency.specs.Problem.{Problem, allFields, in-allFields}
+use Rattle.consistency.specs.Problem.{Problem, In, OnFields, allFields, in-allFields}
 use Rattle.consistency.specs.Closing.{closing-is}
-use Rattle.consistency.specs.Neighbourhood.{neighbourhood}
-use Rattle.consistency.specs.Offers.{NoneEmpty, noneEmpty-at, passesOver, passesOver-at, EachPasses}
-use Rattle.consistency.specs.Offers.{offers, offers-is, offers-unique, wipedOut, wipedOut-by}
-use Rattle.consistency.specs.Order.{offers-in-closing, offers-of-closing}
+use Rattle.consistency.specs.Passing.{NoneEmpty, noneEmpty-at, passesOver, passesOver-at}
+use Rattle.consistency.specs.Offers.{Consistent, offers, offers-is, offers-unique, offers-in-closing, offers-of-closing}
+use Rattle.consistency.specs.Offers.{wipedOut, wipedOut-by}
 use Rattle.closing.specs.Shrunk.{Shrunk, shrunk-none, shrunk-then, or-within}
 use Rattle.closing.specs.Close.{Ready, Closes}
 use Rattle.closing.specs.Frame.{Live, wiped-by, wiped-same}
@@ -35,38 +34,23 @@ pub record Hoods (P : Problem) (hood : List ℕ) : Type 0 where
   pub self : (f : ℕ) → f < P .fields → bit (getD hood f 0) f ≡ true
   pub back : (f g : ℕ) → f < P .fields → g < P .fields → bit (getD hood f 0) g ≡ true → bit (getD hood g 0) f ≡ true
 
--- They are the neighbourhoods at reach k.
-pub record At (P : Problem) (hood : List ℕ) (k : ℕ) : Type 0 where
-  pub least : 1 ≤ k
-  pub near : (f : ℕ) → f < P .fields → getD hood f 0 ≡ neighbourhood P k f
+-- these masks by field
+unfoldable pub hoodIn : List ℕ → ℕ → ℕ
+hoodIn hood f = getD hood f 0
+
+-- every setting of field f passes over its neighbourhood
+abbrev pub FieldPasses : (P : Problem) (hood S : List ℕ) → ℕ → Type 0
+FieldPasses P hood S f = (v : ℕ) → has S f v ≡ true → passesOver P (getD hood f 0) S f v ≡ true
 
 module _ (P : Problem) where
-  -- settings of the problem's fields only
-  abbrev pub OnFields : List ℕ → Type 0
-  OnFields S = (f v : ℕ) → has S f v ≡ true → f < P .fields
-
   -- ---- what every engine promises: wiped out exactly when a field of the offers is empty, and otherwise the offers
 
-  pub record Offered (k : ℕ) (S : List ℕ) (wiped : Bool) (R : List ℕ) : Type 0 where
-    pub wipes : wiped ≡ wipedOut P k S
-    pub made : wiped ≡ false → R ≡ offers P k S
+  pub record Offered (hood : ℕ → ℕ) (selected : ℕ) (S : List ℕ) (wiped : Bool) (R : List ℕ) : Type 0 where
+    pub wipes : wiped ≡ wipedOut P hood selected S
+    pub made : wiped ≡ false → R ≡ offers P hood selected S
 
-  abbrev pub Engine : List ℕ → List ℕ → Bool → List ℕ → Type 0
-  Engine hood S wiped R = (k : ℕ) → At P hood k → Offered k S wiped R
-
-  offered-none : (k : ℕ) (S R : List ℕ) → wipedOut P k S ≡ true → Offered k S true R
-  offered-none k S R e = record { wipes = sym e; made = λ q. absurd (true≢false q) }
-
-  -- a live set with the same offers, in which every setting passes
-  offered-done : (k : ℕ) (S R : List ℕ) → offers P k R ≡ offers P k S → Live P R → EachPasses P k R → Offered k S false R
-  unfolding wipedOut
-  offered-done k S R e l p =
-      let q : R ≡ offers P k S = sym (offers-unique P k R R (IsLargest-self (EachPasses P k) R p)) ∙ e in
-      record {
-        wipes = sym (ap (someEmpty (P .fields)) (sym q) ∙ not-so (someEmpty (P .fields) R) (λ w.
-            let x = someEmpty-at (P .fields) R w in never (x .2) (l .full (x .0) (in-allFields P (x .0) (x .1)))));
-        made = λ _. q;
-      }
+  abbrev pub Engine : List ℕ → ℕ → List ℕ → Bool → List ℕ → Type 0
+  Engine hood selected S wiped R = Offered (hoodIn hood) selected S wiped R
 
   -- ---- the start: no field is empty, and the set is closed
 
@@ -74,8 +58,8 @@ module _ (P : Problem) where
     pub sized : length R ≡ length S
     pub inside : wiped ≡ false → R ⊆ S
     pub live : wiped ≡ false → Live P R
-    pub steady : wiped ≡ false → (k : ℕ) → 1 ≤ k → offers P k R ≡ offers P k S
-    pub none : wiped ≡ true → (k : ℕ) → 1 ≤ k → wipedOut P k S ≡ true
+    pub steady : wiped ≡ false → (hood : ℕ → ℕ) (selected : ℕ) → offers P hood selected R ≡ offers P hood selected S
+    pub none : wiped ≡ true → (hood : ℕ → ℕ) (selected : ℕ) → wipedOut P hood selected S ≡ true
 
   pub begun-empty : (S : List ℕ) → someEmpty (P .fields) S ≡ true → Begun S true S
   begun-empty S e = record {
@@ -83,7 +67,8 @@ module _ (P : Problem) where
     inside = λ q. absurd (true≢false q);
     live = λ q. absurd (true≢false q);
     steady = λ q. absurd (true≢false q);
-    none = λ _ k o. let x = someEmpty-at (P .fields) S e in wipedOut-by P k S S (x .0) (x .1) (offers-is P k S .inside) (x .2);
+    none = λ _ hood selected. let x = someEmpty-at (P .fields) S e in
+        wipedOut-by P hood selected S S (x .0) (x .1) (offers-is P hood selected S .inside) (x .2);
   }
 
   pub all-ready : (S : List ℕ) → Ready P (allFields P) (allFields P) S
@@ -92,7 +77,7 @@ module _ (P : Problem) where
   pub all-full : (S : List ℕ) → someEmpty (P .fields) S ≡ false → NoneEmpty P (allFields P) S
   all-full S e g i = not-so (empty S g) (λ z. never (someEmpty-by (P .fields) S g (i .0) z) e)
 
-  pub begun-closed : (S : List ℕ) → OnFields S → (wiped : Bool) (touched : ℕ) (R : List ℕ) → Closes P (allFields P) S wiped touched R
+  pub begun-closed : (S : List ℕ) → OnFields P S → (wiped : Bool) (touched : ℕ) (R : List ℕ) → Closes P (allFields P) S wiped touched R
       → Begun S wiped R
   begun-closed S on wiped touched R c = record {
     sized = c .sized;
@@ -102,70 +87,81 @@ module _ (P : Problem) where
       shut = rw (c .made e) (closing-is P (allFields P) S .good);
       full = rw (c .made e) (noneEmpty-at P (allFields P) _ (not-false _ (sym (c .wipes) ∙ e)));
     };
-    steady = λ e k o. ap (offers P k) (c .made e) ∙ offers-of-closing P k o S;
-    none = λ e k o. wiped-by P k S _ (offers-in-closing P k o S S (offers-is P k S .inside)) (not-true _ (sym (c .wipes) ∙ e));
+    steady = λ e hood selected. ap (offers P hood selected) (c .made e) ∙ offers-of-closing P hood selected S;
+    none = λ e hood selected.
+        wiped-by P hood selected S _ (offers-in-closing P hood selected S S (offers-is P hood selected S .inside))
+        (not-true _ (sym (c .wipes) ∙ e));
   }
 
-  pub begun-engine : (hood S R : List ℕ) → Begun S true R → Engine hood S true R
-  begun-engine hood S R b k a = offered-none k S R (b .none refl k (a .least))
+  module _ (hood : List ℕ) (selected : ℕ) where
+    abbrev offered : List ℕ → List ℕ
+    offered = offers P (hoodIn hood) selected
 
-  -- ---- what holds of the set between two visits, from S0
+    offered-none : (S R : List ℕ) → wipedOut P (hoodIn hood) selected S ≡ true → Engine hood selected S true R
+    offered-none S R e = record { wipes = sym e; made = λ q. absurd (true≢false q) }
 
-  pub record Kept (hood S0 : List ℕ) (touched : ℕ) (S : List ℕ) : Type 0 where
-    pub shrunk : Shrunk S0 S touched
-    pub marks : Within touched (allFields P)
-    pub live : Live P S
-    pub steady : (k : ℕ) → At P hood k → offers P k S ≡ offers P k S0
+    -- a live set with the same offers, in which every setting of a selected field passes
+    offered-done : (S R : List ℕ) → offered R ≡ offered S → Live P R → ((f : ℕ) → In P selected f → FieldPasses P hood R f)
+        → Engine hood selected S false R
+    unfolding wipedOut hoodIn
+    offered-done S R e l p =
+        let c : Consistent P (hoodIn hood) selected R =
+        record { shut = l .shut; passing = λ f v i h. passesOver-at P (getD hood f 0) R f v (p f i v h) } in
+        let own = IsLargest-self (Consistent P (hoodIn hood) selected) R c in
+        let q : R ≡ offered S = sym (offers-unique P (hoodIn hood) selected R R own) ∙ e in
+        record {
+          wipes = sym (ap (someEmpty (P .fields)) (sym q) ∙ not-so (someEmpty (P .fields) R) (λ w.
+              let x = someEmpty-at (P .fields) R w in never (x .2) (l .full (x .0) (in-allFields P (x .0) (x .1)))));
+          made = λ _. q;
+        }
 
-  abbrev pub Wiped : List ℕ → List ℕ → Type 0
-  Wiped hood S0 = (k : ℕ) → At P hood k → wipedOut P k S0 ≡ true
+    pub begun-engine : (S R : List ℕ) → Begun S true R → Engine hood selected S true R
+    begun-engine S R b = offered-none S R (b .none refl (hoodIn hood) selected)
 
-  pub kept-start : (hood S : List ℕ) → Live P S → Kept hood S 0 S
-  kept-start hood S l = record {
-    shrunk = shrunk-none S;
-    marks = λ v e. absurd (never e (bit-of-zero v));
-    live = l;
-    steady = λ k a. refl;
-  }
+    -- ---- what holds of the set between two visits, from S0
 
-  pub kept-then : {hood S R Q : List ℕ} {a b : ℕ} → Kept hood S a R → Kept hood R b Q → Kept hood S (bitOr a b) Q
-  kept-then {hood} {S} {R} {Q} {a} {b} x y = record {
-    shrunk = shrunk-then (x .shrunk) (y .shrunk);
-    marks = or-within a b (allFields P) (x .marks) (y .marks);
-    live = y .live;
-    steady = λ k at. y .steady k at ∙ x .steady k at;
-  }
+    pub record Kept (S0 : List ℕ) (touched : ℕ) (S : List ℕ) : Type 0 where
+      pub shrunk : Shrunk S0 S touched
+      pub marks : Within touched (allFields P)
+      pub live : Live P S
+      pub steady : offers P (hoodIn hood) selected S ≡ offers P (hoodIn hood) selected S0
 
-  -- after a visit of f over its neighbourhood
-  module _ (hood : List ℕ) (f : ℕ) (l : f < P .fields) (S : List ℕ) (wiped : Bool) (touched : ℕ) (R : List ℕ)
-      (v : Visited P (getD hood f 0) f S wiped touched R) where
-    pub visit-kept : wiped ≡ false → Kept hood S touched R
-    visit-kept e = record {
-      shrunk = v .shrunk e;
-      marks = v .marks e;
-      live = v .live e;
-      steady = λ k a. v .steady e k (a .least) (a .near f l);
+    abbrev pub Wiped : List ℕ → Type 0
+    Wiped S0 = wipedOut P (hoodIn hood) selected S0 ≡ true
+
+    pub kept-start : (S : List ℕ) → Live P S → Kept S 0 S
+    kept-start S l =
+        record { shrunk = shrunk-none S; marks = λ v e. absurd (never e (bit-of-zero v)); live = l; steady = refl }
+
+    pub kept-then : {S R Q : List ℕ} {a b : ℕ} → Kept S a R → Kept R b Q → Kept S (bitOr a b) Q
+    kept-then {S} {R} {Q} {a} {b} x y = record {
+      shrunk = shrunk-then (x .shrunk) (y .shrunk);
+      marks = or-within a b (allFields P) (x .marks) (y .marks);
+      live = y .live;
+      steady = y .steady ∙ x .steady;
     }
 
-    pub visit-wiped : wiped ≡ true → Wiped hood S
-    visit-wiped e k a = v .none e k (a .least) (a .near f l)
+    pub kept-wiped : {S R : List ℕ} {a : ℕ} → Kept S a R → Wiped R → Wiped S
+    kept-wiped {S} {R} x w = wiped-same P (hoodIn hood) selected R S (x .steady) w
 
-  pub kept-wiped : {hood S R : List ℕ} {a : ℕ} → Kept hood S a R → Wiped hood R → Wiped hood S
-  kept-wiped {hood} {S} {R} x w k a = wiped-same P k R S (x .steady k a) (w k a)
+    -- after a visit of a selected field f over its neighbourhood
+    module _ (f : ℕ) (i : In P selected f) (S : List ℕ) (wiped : Bool) (touched : ℕ) (R : List ℕ)
+        (v : Visited P (getD hood f 0) f S wiped touched R) where
+      pub visit-kept : wiped ≡ false → Kept S touched R
+      unfolding hoodIn
+      visit-kept e =
+          record { shrunk = v .shrunk e; marks = v .marks e; live = v .live e; steady = v .steady e (hoodIn hood) selected refl i }
 
-  -- every setting of field f passes over its neighbourhood
-  abbrev pub FieldPasses : List ℕ → List ℕ → ℕ → Type 0
-  FieldPasses hood S f = (v : ℕ) → has S f v ≡ true → passesOver P (getD hood f 0) S f v ≡ true
+      pub visit-wiped : wiped ≡ true → Wiped S
+      unfolding hoodIn
+      visit-wiped e = v .none e (hoodIn hood) selected refl i
 
-  -- ---- the ends of an engine that began from S with M
+    -- ---- the ends of an engine that began from S with M
 
-  module _ (hood S M : List ℕ) (b : Begun S false M) where
-    pub engine-none : {R : List ℕ} → Wiped hood M → Engine hood S true R
-    engine-none {R} w k a = offered-none k S R (wiped-same P k M S (b .steady refl k (a .least)) (w k a))
+    module _ (S M : List ℕ) (b : Begun S false M) where
+      pub engine-none : {R : List ℕ} → Wiped M → Engine hood selected S true R
+      engine-none {R} w = offered-none S R (wiped-same P (hoodIn hood) selected M S (b .steady refl (hoodIn hood) selected) w)
 
-    pub engine-done : {R : List ℕ} {touched : ℕ} → Kept hood M touched R → ((f : ℕ) → f < P .fields → FieldPasses hood R f)
-        → Engine hood S false R
-    engine-done {R} x p k a =
-        offered-done k S R (x .steady k a ∙ b .steady refl k (a .least)) (x .live)
-        (λ f v h. let l = x .live .on f v h in
-        passesOver-at P (neighbourhood P k f) R f v (ap (λ (W : ℕ). passesOver P W R f v) (sym (a .near f l)) ∙ p f l v h))
+      pub engine-done : {R : List ℕ} {touched : ℕ} → Kept M touched R → ((f : ℕ) → In P selected f → FieldPasses P hood R f)
+          → Engine hood selected S false R
+      engine-done {R} x p = offered-done S R (x .steady ∙ b .steady refl (hoodIn hood) selected) (x .live) p

@@ -1,19 +1,20 @@
 -- What the engines ask, and that their parts ask no more. Assumes nothing.
 use mathlib.Core.Path.{_≡_, refl, _∙_}
-use mathlib.Core.Bool.{false}
+use mathlib.Core.Bool.{true, false}
 use mathlib.Core.List.{List}
 use Prim.Native.Nat.{ℕ, _≤_, _<_}
 use native.Mathlib.Omega.{arith}
 use lib.ListN.{length, getD}
 use Rattle.limits.specs.Limits.{mostFields}
+use Rattle.masks.specs.Bits.{bit, Within}
 use Rattle.masks.specs.Settings.{someEmpty}
-use Rattle.consistency.specs.Problem.{Problem, allFields}
+use Rattle.consistency.specs.Problem.{Problem, In, OnFields, allFields}
 use Rattle.network.specs.declared.build.Network.{Network}
 use Rattle.network.specs.Tables.{problemOf, Wired}
 use Rattle.closing.specs.Shrunk.{small-⊆}
 use Rattle.closing.specs.Asks.{Masks, CloseAsks, LiveAsks, asks-shrunk}
 use Rattle.visiting.specs.Store.{HoodAsks}
-use Rattle.engines.specs.Engine.{IsOrder, Hoods, OnFields, Begun, all-ready, all-full, Kept}
+use Rattle.engines.specs.Engine.{IsOrder, Hoods, Begun, all-ready, all-full, Kept}
 
 -- a set as it is given: settings of the problem's fields only
 pub record StartAsks (n : ℕ) (joined forward turned : List ℕ) (S : List ℕ) : Type 0 where
@@ -21,15 +22,17 @@ pub record StartAsks (n : ℕ) (joined forward turned : List ℕ) (S : List ℕ)
   pub masks : Masks S
   pub on : OnFields (problemOf n joined forward turned) S
 
--- an order, and the masks of the neighbourhoods
-pub record Lent (n : ℕ) (joined forward turned : List ℕ) (order hood : List ℕ) : Type 0 where
+-- an order, the mask of the selected fields, and the masks of the neighbourhoods
+pub record Lent (n : ℕ) (joined forward turned : List ℕ) (order : List ℕ) (selected : ℕ) (hood : List ℕ) : Type 0 where
   pub visits : IsOrder n order
+  pub selected-fields : Within selected (allFields (problemOf n joined forward turned))
   pub hoods : Hoods (problemOf n joined forward turned) hood
 
--- What an engine asks of a network, its two tables, an order and a set.
-abbrev pub RunAsks : Network → List ℕ → List ℕ → List ℕ → List ℕ → Type 0
-RunAsks net forward turned order S =
-    StartAsks (net .fields) (net .joined) forward turned S × Lent (net .fields) (net .joined) forward turned order (net .hood)
+-- What an engine asks of a network, its two tables, an order, a mask of selected fields and a set.
+abbrev pub RunAsks : Network → List ℕ → List ℕ → List ℕ → ℕ → List ℕ → Type 0
+RunAsks net forward turned order selected S =
+    StartAsks (net .fields) (net .joined) forward turned S
+    × Lent (net .fields) (net .joined) forward turned order selected (net .hood)
 
 module _ (n : ℕ) (joined forward turned : List ℕ) where
   abbrev P : Problem
@@ -55,12 +58,14 @@ module _ (n : ℕ) (joined forward turned : List ℕ) where
     live = b .live refl;
   }
 
-  pub kept-asks : {hood S R : List ℕ} {touched : ℕ} → LiveAsks n joined forward turned S → Kept P hood S touched R
+  pub kept-asks : {hood : List ℕ} {selected : ℕ} {S R : List ℕ} {touched : ℕ} → LiveAsks n joined forward turned S
+      → Kept P hood selected S touched R
       → LiveAsks n joined forward turned R
   kept-asks {S = S} a k = asks-shrunk n joined forward turned S a (k .shrunk) (k .live)
 
   -- what the visit of a field of the order asks
-  module _ (order hood : List ℕ) (l : Lent n joined forward turned order hood) (few : n ≤ mostFields) (q : ℕ) (h : q < n) where
+  module _ (order : List ℕ) (selected : ℕ) (hood : List ℕ) (l : Lent n joined forward turned order selected hood) (few : n ≤ mostFields)
+      (q : ℕ) (h : q < n) where
     abbrev f : ℕ
     f = getD order q 0
 
@@ -70,3 +75,8 @@ module _ (n : ℕ) (joined forward turned : List ℕ) where
     pub visit-asks : (getD order q 0 < n) × HoodAsks P hood (getD order q 0)
     unfolding problemOf
     visit-asks = let b = l .visits .low q h in (b, record { fields = l .hoods .fields f b; self = l .hoods .self f b })
+
+    -- and that it is selected, where the mask has it
+    pub visit-selected : bit selected (getD order q 0) ≡ true → In P selected (getD order q 0)
+    unfolding problemOf
+    visit-selected b = (l .visits .low q h, b)

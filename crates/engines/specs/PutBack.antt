@@ -4,7 +4,7 @@ use mathlib.Core.Logic.{⊎-elim}
 use mathlib.Core.Bool.{Bool, true, false, _&&_, _||_, cond, or-assoc}
 use mathlib.Core.List.{List}
 use Prim.Native.Nat.{ℕ, _≤_, _<_}
-use lib.Bits.{bitOr}
+use lib.Bits.{bitAnd, bitOr}
 use lib.Dec.{eqb, ltb, leb}
 use lib.ListN.{getD}
 use borrow.Author.Tests.{eq-eqb, ne-eqb, lt-ltb, leb-true, leb-false, le-leb, lt-leb}
@@ -14,7 +14,7 @@ use Rattle.masks.specs.Tests.{someBelow, someBelow-at, someBelow-by}
 use Rattle.masks.specs.Bits.{bit, bit-of-zero, bit-ext, bit-nonzero, Within}
 use Rattle.masks.specs.Masks.{maskOf, bit-maskOf, maskOf-in, maskOf-bound}
 use Rattle.masks.specs.Loops.{mask-cong}
-use Rattle.masks.specs.Words.{bit-or, clear, clear-within, clear-other}
+use Rattle.masks.specs.Words.{bit-and, bit-or, clear, clear-within, clear-other}
 use Rattle.consistency.specs.Problem.{Problem, allFields}
 use Rattle.closing.specs.Shrunk.{or-within}
 use Rattle.engines.specs.Engine.{Hoods}
@@ -31,42 +31,45 @@ nearChanged n hood changed g = someBelow n (λ h. bit changed h && bit (clear (g
 unfoldable pub withOthers : (n : ℕ) (hood : List ℕ) (queue changed : ℕ) → ℕ
 withOthers n hood queue changed = maskOf n (λ g. bit queue g || nearChanged n hood changed g)
 
--- The queue after the fields of `changed` lost settings: at the whole reach every field is put back, otherwise the other fields of the
--- neighbourhoods. Where no field lost one, it stays as it is.
-unfoldable pub putBack : (n reach : ℕ) (hood : List ℕ) (queue changed : ℕ) → ℕ
-putBack n reach hood queue changed =
-    let all = allOf n in
-    let others = withOthers n hood queue changed in
-    cond (eqb changed 0) queue (cond (leb wholeReach reach) all others)
+-- The queue after the fields of `changed` lost settings: at the whole reach every selected field is put back, otherwise the selected ones
+-- of the other fields of the neighbourhoods. Where no field lost one, it stays as it is.
+unfoldable pub putBack : (n reach : ℕ) (hood : List ℕ) (selected queue changed : ℕ) → ℕ
+putBack n reach hood selected queue changed =
+    let others = bitAnd (withOthers n hood queue changed) selected in
+    cond (eqb changed 0) queue (cond (leb wholeReach reach) selected others)
 
 -- ---- the three cases
 
-module _ (n reach : ℕ) (hood : List ℕ) (queue changed : ℕ) where
-  pub back-none : changed ≡ 0 → putBack n reach hood queue changed ≡ queue
+module _ (n reach : ℕ) (hood : List ℕ) (selected queue changed : ℕ) where
+  pub back-none : changed ≡ 0 → putBack n reach hood selected queue changed ≡ queue
   unfolding putBack
   back-none z = rw (eq-eqb changed 0 z)
 
-  pub back-all : (changed ≡ 0 → ⊥) → wholeReach ≤ reach → putBack n reach hood queue changed ≡ allOf n
+  pub back-all : (changed ≡ 0 → ⊥) → wholeReach ≤ reach → putBack n reach hood selected queue changed ≡ selected
   unfolding putBack
   back-all d h = rw (ne-eqb changed 0 d, le-leb wholeReach reach h)
 
-  pub back-others : (changed ≡ 0 → ⊥) → reach < wholeReach → putBack n reach hood queue changed ≡ withOthers n hood queue changed
+  pub back-others : (changed ≡ 0 → ⊥) → reach < wholeReach
+      → putBack n reach hood selected queue changed ≡ bitAnd (withOthers n hood queue changed) selected
   unfolding putBack
   back-others d h = rw (ne-eqb changed 0 d, lt-leb wholeReach reach h)
 
--- ---- what putting back asks: masks of the first n fields
+-- ---- what putting back asks: masks of the first n fields, and only selected fields on the queue
 
-pub record BackAsks (n : ℕ) (hood : List ℕ) (queue changed : ℕ) : Type 0 where
+pub record BackAsks (n : ℕ) (hood : List ℕ) (selected queue changed : ℕ) : Type 0 where
   pub few : n ≤ mostFields
-  pub queued : Within queue (allOf n)
+  pub selected-fields : Within selected (allOf n)
+  pub queued : Within queue selected
   pub lost : Within changed (allOf n)
   pub hoods : (h : ℕ) → h < n → Within (getD hood h 0) (allOf n)
 
 -- masks of the problem's fields will do
-pub back-asks : (P : Problem) (hood : List ℕ) → P .fields ≤ mostFields → Hoods P hood → (queue changed : ℕ)
-    → Within queue (allFields P) → Within changed (allFields P) → BackAsks (P .fields) hood queue changed
+pub back-asks : (P : Problem) (hood : List ℕ) → P .fields ≤ mostFields → Hoods P hood → (selected queue changed : ℕ)
+    → Within selected (allFields P) → Within queue selected → Within changed (allFields P)
+    → BackAsks (P .fields) hood selected queue changed
 unfolding allFields
-back-asks P hood few hs queue changed q c = record { few = few; queued = q; lost = c; hoods = hs .fields }
+back-asks P hood few hs selected queue changed s q c =
+    record { few = few; selected-fields = s; queued = q; lost = c; hoods = hs .fields }
 
 -- ---- as a loop adds the neighbourhoods, one changed field after the other
 
@@ -108,12 +111,15 @@ pub record Backing (n : ℕ) (hood : List ℕ) (queue changed left r : ℕ) : Ty
   pub small : Within r (allOf n)
   pub same : withOthers n hood r left ≡ withOthers n hood queue changed
 
-module _ (n : ℕ) (hood : List ℕ) (queue changed : ℕ) (a : BackAsks n hood queue changed) where
+module _ (n : ℕ) (hood : List ℕ) (selected queue changed : ℕ) (a : BackAsks n hood selected queue changed) where
+  queued-fields : Within queue (allOf n)
+  queued-fields v e = a .selected-fields v (a .queued v e)
+
   pub changed-low : (h : ℕ) → bit changed h ≡ true → h < n
   changed-low h c = maskOf-bound n (λ g. true) h (a .lost h c)
 
   pub backing-start : Backing n hood queue changed changed queue
-  backing-start = record { lefts = λ v e. e; small = a .queued; same = refl }
+  backing-start = record { lefts = λ v e. e; small = queued-fields; same = refl }
 
   pub backing-turn : (left r f : ℕ) → bit left f ≡ true → Backing n hood queue changed left r
       → Backing n hood queue changed (clear left f) (bitOr r (clear (getD hood f 0) f))
@@ -130,41 +136,41 @@ module _ (n : ℕ) (hood : List ℕ) (queue changed : ℕ) (a : BackAsks n hood 
 
 -- ---- what is on the queue then
 
-module _ (n reach : ℕ) (hood : List ℕ) (queue changed : ℕ) (a : BackAsks n hood queue changed) where
+module _ (n reach : ℕ) (hood : List ℕ) (selected queue changed : ℕ) (a : BackAsks n hood selected queue changed) where
+  abbrev others : ℕ
+  others = bitAnd (withOthers n hood queue changed) selected
+
   -- a property of each of the three cases
-  each-case : (A : ℕ → Type 0) → A queue → A (allOf n) → A (withOthers n hood queue changed) → A (putBack n reach hood queue changed)
+  each-case : (A : ℕ → Type 0) → A queue → A selected → A others → A (putBack n reach hood selected queue changed)
   unfolding putBack
   each-case A p q r = go (eqb changed 0) (leb wholeReach reach)
     where
-      go : (s t : Bool) → A (cond s queue (cond t (allOf n) (withOthers n hood queue changed)))
+      go : (s t : Bool) → A (cond s queue (cond t selected others))
       go true t = p
       go false true = q
       go false false = r
 
-  in-others : (g : ℕ) → g < n → (bit queue g || nearChanged n hood changed g) ≡ true → bit (withOthers n hood queue changed) g ≡ true
+  in-others : (g : ℕ) → bit selected g ≡ true → (bit queue g || nearChanged n hood changed g) ≡ true → bit others g ≡ true
   unfolding withOthers
-  in-others g l e = maskOf-in n _ g l ∙ e
+  in-others g s e =
+      bit-and (withOthers n hood queue changed) selected g
+      ∙ and-by _ _ (maskOf-in n _ g (maskOf-bound n (λ g. true) g (a .selected-fields g s)) ∙ e) s
 
-  others-small : Within (withOthers n hood queue changed) (allOf n)
-  unfolding withOthers
-  others-small g e = maskOf-in n (λ g. true) g (maskOf-bound n _ g e)
+  pub back-keeps : Within queue (putBack n reach hood selected queue changed)
+  back-keeps = each-case (Within queue) (λ v e. e) (a .queued) (λ v e. in-others v (a .queued v e) (or-l _ _ e))
 
-  pub back-keeps : Within queue (putBack n reach hood queue changed)
-  back-keeps = each-case (Within queue) (λ v e. e) (a .queued)
-      (λ v e. in-others v (maskOf-bound n (λ g. true) v (a .queued v e)) (or-l _ _ e))
+  pub back-small : Within (putBack n reach hood selected queue changed) selected
+  back-small = each-case (λ (r : ℕ). Within r selected) (a .queued) (λ v e. e)
+      (λ v e. and-r (bit (withOthers n hood queue changed) v) _ (sym (bit-and (withOthers n hood queue changed) selected v) ∙ e))
 
-  pub back-small : Within (putBack n reach hood queue changed) (allOf n)
-  back-small = each-case (λ (r : ℕ). Within r (allOf n)) (a .queued) (λ v e. e) others-small
-
-  -- the other fields of a changed field's neighbourhood are on it
-  pub back-adds : (h g : ℕ) → bit changed h ≡ true → bit (getD hood h 0) g ≡ true → (g ≡ h → ⊥)
-      → bit (putBack n reach hood queue changed) g ≡ true
-  back-adds h g c y d =
+  -- the selected ones of the other fields of a changed field's neighbourhood are on it
+  pub back-adds : (h g : ℕ) → bit changed h ≡ true → bit (getD hood h 0) g ≡ true → (g ≡ h → ⊥) → bit selected g ≡ true
+      → bit (putBack n reach hood selected queue changed) g ≡ true
+  back-adds h g c y d s =
       let some = bit-nonzero changed h c in
-      let low = changed-low n hood queue changed a h c in
-      let near = a .hoods h low g y in
-      ⊎-elim (λ q. ap (λ (r : ℕ). bit r g) (back-all n reach hood queue changed some (leb-true wholeReach reach q)) ∙ near)
-      (λ q. ap (λ (r : ℕ). bit r g) (back-others n reach hood queue changed some (leb-false wholeReach reach q))
-      ∙ in-others g (maskOf-bound n (λ g. true) g near)
+      let low = changed-low n hood selected queue changed a h c in
+      ⊎-elim (λ q. ap (λ (r : ℕ). bit r g) (back-all n reach hood selected queue changed some (leb-true wholeReach reach q)) ∙ s)
+      (λ q. ap (λ (r : ℕ). bit r g) (back-others n reach hood selected queue changed some (leb-false wholeReach reach q))
+      ∙ in-others g s
       (or-r (bit queue g) _ (someBelow-by n _ h low (and-by _ _ c (clear-other (getD hood h 0) h g d ∙ y)))))
       (bool-cases (leb wholeReach reach))

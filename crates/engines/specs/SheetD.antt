@@ -7,7 +7,7 @@ use native.Mathlib.Omega.{arith}
 use lib.ListN.{getD, take, replicate, length-replicate}
 use Rattle.limits.specs.Limits.{mostFields, mostSettings, rowsWords, memoryWords}
 use Rattle.masks.specs.Tests.{never, allBelow, someBelow}
-use Rattle.masks.specs.Bits.{bit, bit-of-zero}
+use Rattle.masks.specs.Bits.{bit, bit-of-zero, bit-bound}
 use Rattle.masks.specs.Masks.{maskOf, keepIn, keepBits, someIn, someBit, countIn, countBits}
 use Rattle.masks.specs.Sets.{has, only, count, same, getD-zeros}
 use Rattle.masks.specs.Settings.{cut, empty, someEmpty}
@@ -16,7 +16,8 @@ use Rattle.consistency.specs.Largest.{sweep, sweeps, largest}
 use Rattle.consistency.specs.Problem.{allFields}
 use Rattle.consistency.specs.Closing.{partner, supportedBy, supported, closing}
 use Rattle.consistency.specs.Neighbourhood.{widen, fieldsWithin, neighbourhood}
-use Rattle.consistency.specs.Offers.{noneEmpty, passesOver, passes, offers, wipedOut}
+use Rattle.consistency.specs.Passing.{noneEmpty, passesOver}
+use Rattle.consistency.specs.Offers.{isSelected, stays, offers, wipedOut}
 use Rattle.accepted.specs.Parts.{fieldStart, ruleStart, reachOf}
 use Rattle.accepted.specs.Cases.{numbersOfD, sheet-D}
 use Rattle.network.specs.SheetProblem.{runs, pairs, sheetProblem}
@@ -68,25 +69,35 @@ on-D zero v h = omega arith
 on-D (suc zero) v h = omega arith
 on-D (suc (suc f)) v h = absurd (never h (ap (λ (x : ℕ). bit x v) (getD-zeros (mostFields - 2) f) ∙ bit-of-zero v))
 
-pub offer-asks-D : OfferAsks (take 15 memoryOfD) 15 orderOfD startOfD rowsOfD memoryOfD
+selected-D : (f : ℕ) → bit 3 f ≡ true → f < 2
+selected-D f b = bit-bound 2 3 f (omega arith) b
+
+-- both its fields are selected
+pub offer-asks-D : OfferAsks (take 15 memoryOfD) 15 orderOfD 3 startOfD rowsOfD memoryOfD
 offer-asks-D = record {
   accepted = sheet-D .2;
   ends = let n = length-replicate {A = ℕ} (memoryWords - 15) 0 in omega arith;
   visits = order-D;
+  selected-fields = selected-D;
   masks = record { long = refl; small = small-D };
   on = on-D;
   tables = let n = length-replicate {A = ℕ} rowsWords 0 in omega arith;
   room = let n = length-replicate {A = ℕ} (memoryWords - 15) 0 in omega arith;
 }
 
-computed : (wipedOut (sheetProblem numbersOfD) (reachOf numbersOfD) startOfD ≡ false)
-    × (offers (sheetProblem numbersOfD) (reachOf numbersOfD) startOfD ≡ offersOfD)
-unfolding wipedOut offers passes passesOver noneEmpty neighbourhood fieldsWithin widen allFields closing supported supportedBy
+abbrev hoodOfD : ℕ → ℕ
+hoodOfD = neighbourhood (sheetProblem numbersOfD) (reachOf numbersOfD)
+
+computed : (wipedOut (sheetProblem numbersOfD) hoodOfD 3 startOfD ≡ false)
+    × (offers (sheetProblem numbersOfD) hoodOfD 3 startOfD ≡ offersOfD)
+unfolding wipedOut offers stays isSelected passesOver noneEmpty neighbourhood fieldsWithin widen allFields closing supported supportedBy
     partner largest sweeps sweep someEmpty empty cut same count only countBits countIn someBit someIn keepBits keepIn maskOf bit
     someBelow allBelow sheetProblem runs pairs pick fieldStart ruleStart
 computed = (refl, refl)
 
 -- The only answer there: not wiped out, and the offers (6, 3).
-pub offered-D : (wiped : Bool) (R : List ℕ) → Offered (sheetProblem (take 15 memoryOfD)) (reachOf (take 15 memoryOfD)) startOfD wiped R
+pub offered-D : (wiped : Bool) (R : List ℕ)
+    → Offered (sheetProblem (take 15 memoryOfD)) (neighbourhood (sheetProblem (take 15 memoryOfD)) (reachOf (take 15 memoryOfD))) 3
+    startOfD wiped R
     → (wiped ≡ false) × (R ≡ offersOfD)
 offered-D wiped R o = let e = o .wipes ∙ computed .0 in (e, o .made e ∙ computed .1)

@@ -1,11 +1,10 @@
-// Engine 3, the queue method: only the fields on a queue are visited, and a removal puts fields back.
+// Engine 3, the queue method: only the fields on a queue are visited, all of them selected, and a removal puts selected fields back.
 ghost use mathlib.Core.Path.{_≡_};
 ghost use mathlib.Core.Bool.{false};
 ghost use Prim.Native.Nat.{_≤_};
 ghost use lib.ListN.{length};
 ghost use Rattle.limits.specs.Limits.{memoryWords};
 ghost use Rattle.masks.specs.Bits.{Within};
-ghost use Rattle.consistency.specs.Problem.{allFields};
 ghost use Rattle.network.specs.Network.{problemIn};
 ghost use Rattle.closing.specs.Asks.{LiveAsks};
 ghost use Rattle.visiting.specs.Store.{Store};
@@ -21,7 +20,6 @@ use masks::clear_bit;
 use masks::has_bit;
 use masks::lowest_bit;
 use network::build::Network;
-use network::hoods::all_fields;
 use visiting::visit::visit;
 
 // What a round left: whether the set is wiped out, and else the fields that wait.
@@ -30,17 +28,17 @@ pub struct Waiting {
     pub queue: u32,
 }
 
-// The queue after the fields of `changed` lost settings: at the whole reach every field is put back, otherwise the other fields of each
-// changed field's neighbourhood.
-fn put_back(queue: u32, changed: u32, net: Network) -> u32
-    requires { ⌜ BackAsks (net .fields) (net .hood) queue changed ⌝ }
-    ensures { λ r. ⌜ r ≡ putBack (net .fields) (net .reach) (net .hood) queue changed ⌝ }
+// The queue after the fields of `changed` lost settings: at the whole reach every selected field is put back, otherwise the selected ones
+// of the other fields of each changed field's neighbourhood.
+fn put_back(queue: u32, changed: u32, selected: u32, net: Network) -> u32
+    requires { ⌜ BackAsks (net .fields) (net .hood) selected queue changed ⌝ }
+    ensures { λ r. ⌜ r ≡ putBack (net .fields) (net .reach) (net .hood) selected queue changed ⌝ }
 {
     if changed == 0 {
         return queue;
     }
     if WHOLE_REACH <= net.reach {
-        return all_fields(net.fields);
+        return selected;
     }
     let mut r = queue;
     let mut left = changed;
@@ -49,7 +47,7 @@ fn put_back(queue: u32, changed: u32, net: Network) -> u32
         left = clear_bit(left, f);
         r |= clear_bit(net.hood[f], f);
     }
-    r
+    r & selected
 }
 
 // One round: the fields on the queue are visited in the lent order.
@@ -59,15 +57,16 @@ fn round<'a>(
     memory: &mut [u32],
     waiting: u32,
     order: &[u8],
+    selected: u32,
     net: Network,
     forward: &'a [u32],
     turned: &'a [u32],
 ) -> Waiting
     requires { ⌜ LiveAsks (net .fields) (net .joined) (now forward) (now turned) (now m)
         × Store (problemIn net (now forward) (now turned)) (net .hood) (now m) (now known) (now memory) ⌝ }
-    requires { ⌜ Lent (net .fields) (net .joined) (now forward) (now turned) (now order) (net .hood)
-        × Within waiting (allFields (problemIn net (now forward) (now turned))) ⌝ }
-    ensures { λ r. ⌜ Rounded (problemIn net (now (forward .entry)) (now (turned .entry))) (now (order .entry)) (net .hood)
+    requires { ⌜ Lent (net .fields) (net .joined) (now forward) (now turned) (now order) selected (net .hood)
+        × Within waiting selected ⌝ }
+    ensures { λ r. ⌜ Rounded (problemIn net (now (forward .entry)) (now (turned .entry))) (now (order .entry)) (net .hood) selected
         (now (m .entry)) waiting (r .wiped) (r .queue) (now (m .exit))
         × (r .wiped ≡ false → Store (problemIn net (now (forward .entry)) (now (turned .entry))) (net .hood) (now (m .exit))
         (now (known .exit)) (now (memory .exit))) ⌝ }
@@ -83,7 +82,7 @@ fn round<'a>(
             if r.wiped {
                 return Waiting { wiped: true, queue };
             }
-            queue = put_back(clear_bit(queue, f), r.changed, net);
+            queue = put_back(clear_bit(queue, f), r.changed, selected, net);
         }
     }
     Waiting {
@@ -97,21 +96,33 @@ pub fn queued<'a>(
     m: &mut [u32; FIELDS],
     memory: &mut [u32],
     order: &[u8],
+    selected: u32,
     net: Network,
     forward: &'a [u32],
     turned: &'a [u32],
 ) -> bool
-    requires { ⌜ RunAsks net (now forward) (now turned) (now order) (now m) ⌝ }
+    requires { ⌜ RunAsks net (now forward) (now turned) (now order) selected (now m) ⌝ }
     requires { ⌜ memoryWords ≤ length (now memory) ⌝ }
-    ensures { λ r. ⌜ Engine (problemIn net (now (forward .entry)) (now (turned .entry))) (net .hood) (now (m .entry)) r (now (m .exit)) ⌝ }
+    ensures { λ r. ⌜ Engine (problemIn net (now (forward .entry)) (now (turned .entry))) (net .hood) selected (now (m .entry)) r
+        (now (m .exit)) ⌝ }
 {
     if begin(m, net, forward, turned) {
         return true;
     }
     let mut known = [0u32; FIELDS];
-    let mut queue = all_fields(net.fields);
+    let mut queue = selected;
     while queue != 0 {
-        let r = round(m, &mut known, memory, queue, order, net, forward, turned);
+        let r = round(
+            m,
+            &mut known,
+            memory,
+            queue,
+            order,
+            selected,
+            net,
+            forward,
+            turned,
+        );
         if r.wiped {
             return true;
         }

@@ -15,23 +15,26 @@ const SAC_2: u32 = 2;
 
 const QUEUE: u32 = 3;
 
-// The engine asked for. Whether the set is wiped out; if not, m becomes its offers. The memory may hold anything before and after.
+// The engine asked for. Whether the set is wiped out; if not, m becomes its offers under the mask of selected fields. The memory may hold
+// anything before and after.
 pub fn run<'a>(
     m: &mut [u32; FIELDS],
     memory: &mut [u32],
     engine: u32,
     order: &[u8],
+    selected: u32,
     net: Network,
     forward: &'a [u32],
     turned: &'a [u32],
 ) -> bool
-    requires { ⌜ RunAsks net (now forward) (now turned) (now order) (now m) ⌝ }
+    requires { ⌜ RunAsks net (now forward) (now turned) (now order) selected (now m) ⌝ }
     requires { ⌜ memoryWords ≤ length (now memory) ⌝ }
-    ensures { λ r. ⌜ Engine (problemIn net (now (forward .entry)) (now (turned .entry))) (net .hood) (now (m .entry)) r (now (m .exit)) ⌝ }
+    ensures { λ r. ⌜ Engine (problemIn net (now (forward .entry)) (now (turned .entry))) (net .hood) selected (now (m .entry)) r
+        (now (m .exit)) ⌝ }
 {
     match engine {
-        SAC_2 => sac(m, memory, true, order, net, forward, turned),
-        QUEUE => queued(m, memory, order, net, forward, turned),
-        _ => sac(m, memory, false, order, net, forward, turned),
+        SAC_2 => sac(m, memory, true, order, selected, net, forward, turned),
+        QUEUE => queued(m, memory, order, selected, net, forward, turned),
+        _ => sac(m, memory, false, order, selected, net, forward, turned),
     }
 }

@@ -1,4 +1,4 @@
-// The start that the engines share, and engines 1 and 2, SAC-1 and SAC-2: passes over all fields until one changes nothing. SAC-2
+// The start that the engines share, and engines 1 and 2, SAC-1 and SAC-2: passes over the selected fields until one changes nothing. SAC-2
 // remembers what passed tests left in their neighbourhoods, and tests a setting again only where the set lost some of it.
 ghost use mathlib.Core.Path.{_≡_};
 ghost use mathlib.Core.Bool.{false};
@@ -15,6 +15,7 @@ use closing::close::Narrowed;
 use closing::close::close;
 use limits::FIELDS;
 use masks::Domains;
+use masks::has_bit;
 use network::build::Network;
 use network::hoods::all_fields;
 use visiting::visit::visit;
@@ -43,21 +44,22 @@ pub fn field_at(order: &[u8], q: usize) -> usize
     order[q] as usize
 }
 
-// One pass over the fields, in the lent order.
+// One pass over the selected fields, in the lent order.
 fn pass<'a>(
     m: &mut [u32; FIELDS],
     known: &mut [u32; FIELDS],
     memory: &mut [u32],
     remembers: bool,
     order: &[u8],
+    selected: u32,
     net: Network,
     forward: &'a [u32],
     turned: &'a [u32],
 ) -> Narrowed
     requires { ⌜ LiveAsks (net .fields) (net .joined) (now forward) (now turned) (now m)
         × Store (problemIn net (now forward) (now turned)) (net .hood) (now m) (now known) (now memory) ⌝ }
-    requires { ⌜ Lent (net .fields) (net .joined) (now forward) (now turned) (now order) (net .hood) ⌝ }
-    ensures { λ r. ⌜ Passed (problemIn net (now (forward .entry)) (now (turned .entry))) (now (order .entry)) (net .hood)
+    requires { ⌜ Lent (net .fields) (net .joined) (now forward) (now turned) (now order) selected (net .hood) ⌝ }
+    ensures { λ r. ⌜ Passed (problemIn net (now (forward .entry)) (now (turned .entry))) (now (order .entry)) (net .hood) selected
         (now (m .entry)) (r .wiped) (r .changed) (now (m .exit))
         × (r .wiped ≡ false → Store (problemIn net (now (forward .entry)) (now (turned .entry))) (net .hood) (now (m .exit))
         (now (known .exit)) (now (memory .exit))) ⌝ }
@@ -68,14 +70,16 @@ fn pass<'a>(
     while q < n {
         let f = field_at(order, q);
         q += 1;
-        let r = visit(m, known, memory, remembers, f, net, forward, turned);
-        if r.wiped {
-            return Narrowed {
-                wiped: true,
-                changed: touched,
-            };
+        if has_bit(selected, f) {
+            let r = visit(m, known, memory, remembers, f, net, forward, turned);
+            if r.wiped {
+                return Narrowed {
+                    wiped: true,
+                    changed: touched,
+                };
+            }
+            touched |= r.changed;
         }
-        touched |= r.changed;
     }
     Narrowed {
         wiped: false,
@@ -89,13 +93,15 @@ pub fn sac<'a>(
     memory: &mut [u32],
     remembers: bool,
     order: &[u8],
+    selected: u32,
     net: Network,
     forward: &'a [u32],
     turned: &'a [u32],
 ) -> bool
-    requires { ⌜ RunAsks net (now forward) (now turned) (now order) (now m) ⌝ }
+    requires { ⌜ RunAsks net (now forward) (now turned) (now order) selected (now m) ⌝ }
     requires { ⌜ memoryWords ≤ length (now memory) ⌝ }
-    ensures { λ r. ⌜ Engine (problemIn net (now (forward .entry)) (now (turned .entry))) (net .hood) (now (m .entry)) r (now (m .exit)) ⌝ }
+    ensures { λ r. ⌜ Engine (problemIn net (now (forward .entry)) (now (turned .entry))) (net .hood) selected (now (m .entry)) r
+        (now (m .exit)) ⌝ }
 {
     if begin(m, net, forward, turned) {
         return true;
@@ -108,6 +114,7 @@ pub fn sac<'a>(
             memory,
             remembers,
             order,
+            selected,
             net,
             forward,
             turned,

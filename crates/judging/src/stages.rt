@@ -1,8 +1,10 @@
-// The causes of a refusal by what is judged: the session, the engine, the setting that a call names, the order, the change of the
-// decisions. Each function gives the number of the first cause that applies, 0 where none does.
+// The causes of a refusal by what is judged: the session, the mask of selected fields, the engine, the setting that a call names, the order,
+// the change of the decisions. Each function gives the number of the first cause that applies, 0 where none does.
 ghost use mathlib.Core.Path.{_≡_};
-ghost use Rattle.ledger.specs.Ledger.{changeOf, addedAgain, withdrawnUnheld, first, formCauses, engineCauses, settingCauses, orderCauses};
-ghost use Rattle.ledger.specs.Ledger.{changeCauses, offSheet};
+ghost use Prim.Native.Nat.{_≤_};
+ghost use Rattle.limits.specs.Limits.{mostFields};
+ghost use Rattle.ledger.specs.Ledger.{changeOf, addedAgain, withdrawnUnheld, first, selectionCauses, formCauses, engineCauses};
+ghost use Rattle.ledger.specs.Ledger.{settingCauses, orderCauses, changeCauses, offSheet};
 ghost use Rattle.session.specs.View.{decisionsOf, view};
 use super::order::is_order;
 use accepted::outline::Outline;
@@ -16,20 +18,34 @@ use limits::refusals::ADDED_AGAIN;
 use limits::refusals::MALFORMED;
 use limits::refusals::NO_ORDER;
 use limits::refusals::NO_ROOM;
+use limits::refusals::NO_SELECTION;
 use limits::refusals::NOT_IN_FORCE;
 use limits::refusals::UNKNOWN;
 use session::Session;
 use session::decisions::Decisions;
 use session::decisions::held;
 use session::form::malformed;
+use session::form::no_selection;
 use session::form::on_sheet;
 
 // 15: the session is malformed.
 pub fn judge_form(outline: Outline, session: Session) -> u32
+    requires { ⌜ outline .fields ≤ mostFields ⌝ }
     ensures { λ r. ⌜ r ≡ first (formCauses outline (view session)) ⌝ }
 {
     if malformed(outline, session) {
         return MALFORMED;
+    }
+    0
+}
+
+// 18: the mask of selected fields is empty or names a field beyond the sheet.
+pub fn judge_selection(outline: Outline, selected: u32) -> u32
+    requires { ⌜ outline .fields ≤ mostFields ⌝ }
+    ensures { λ r. ⌜ r ≡ first (selectionCauses outline selected) ⌝ }
+{
+    if no_selection(outline, selected) {
+        return NO_SELECTION;
     }
     0
 }

@@ -14,7 +14,8 @@ use Rattle.consistency.specs.Largest.{sweep, sweeps, largest}
 use Rattle.consistency.specs.Problem.{allFields}
 use Rattle.consistency.specs.Closing.{partner, supportedBy, supported, closing}
 use Rattle.consistency.specs.Neighbourhood.{widen, fieldsWithin, neighbourhood}
-use Rattle.consistency.specs.Offers.{noneEmpty, passesOver, passes, offers, wipedOut}
+use Rattle.consistency.specs.Passing.{noneEmpty, passesOver}
+use Rattle.consistency.specs.Offers.{isSelected, stays, offers, wipedOut}
 use Rattle.groups.specs.Groups.{groups, numberAt}
 use Rattle.grammar.specs.Grammar.{advance}
 use Rattle.sheet.specs.Sources.{refusalFrom, numbers, items}
@@ -28,8 +29,8 @@ use Rattle.ledger.specs.declared.Call.the-variants.{Open, Show, Back}
 use Rattle.ledger.specs.Occurrences.{occurrences}
 use Rattle.ledger.specs.Ledger.{choice, strike, CHOOSE, STRIKE, WITHDRAW-CHOICE, WITHDRAW-STRIKE, changeBy, decides, Ledger}
 use Rattle.ledger.specs.Ledger.{sameDecision, inForce, without, opened, backed, step, otherChosen, starts, startSet, offersOf, wiped}
-use Rattle.ledger.specs.Ledger.{Given, spaceShort, onSheet, allOnSheet, reversible, malformed, noEngine, isOrder, first, judged}
-use Rattle.ledger.specs.Ledger.{causes, number}
+use Rattle.ledger.specs.Ledger.{Given, spaceShort, onSheet, allOnSheet, reversible, noSelection, malformed, noEngine, isOrder}
+use Rattle.ledger.specs.Ledger.{first, judged, causes, number}
 
 -- sheet D with an engine, an order, and spaces just long enough
 abbrev givenD : ℕ → List ℕ → Given
@@ -64,51 +65,70 @@ pastOf (suc n) = happened WITHDRAW-STRIKE ∷ happened STRIKE ∷ pastOf n
 
 -- no decision, and 64 events
 abbrev full : Ledger
-full = record { decisions = []; events = pastOf 32 }
+full = record { decisions = []; events = pastOf 32; selected = 3 }
 
 -- a strike in force, and 64 events
 abbrev struck : Ledger
-struck = record { decisions = strike 0 0 ∷ []; events = happened STRIKE ∷ happened WITHDRAW-STRIKE ∷ happened STRIKE ∷ pastOf 30 }
+struck = record {
+  decisions = strike 0 0 ∷ [];
+  events = happened STRIKE ∷ happened WITHDRAW-STRIKE ∷ happened STRIKE ∷ pastOf 30;
+  selected = 3;
+}
 
 -- a decision that is not on the sheet; an addition that is not in force; events of no kind
 abbrev off : Ledger
-off = record { decisions = choice 2 0 ∷ []; events = [] }
+off = record { decisions = choice 2 0 ∷ []; events = []; selected = 3 }
 
 abbrev unheld : Ledger
-unheld = record { decisions = []; events = happened CHOOSE ∷ [] }
+unheld = record { decisions = []; events = happened CHOOSE ∷ []; selected = 3 }
 
 abbrev strange : ℕ → Ledger
-strange kind = record { decisions = []; events = happened kind ∷ [] }
+strange kind = record { decisions = []; events = happened kind ∷ []; selected = 3 }
 
+-- Sheet D has two fields and `narrow` has one: 3 and 1 select all.
 pub order-of-causes :
-    -- 6 before 1, and 1 before 15
-    (number (noSheet 23) Show off ≡ 6) × (number (noSheet 24) Show off ≡ 1)
+    -- 6 before 1, and 1 before 15 and 18
+    (number (noSheet 23) Show off ≡ 6) × (number (noSheet 24) Show off ≡ 1) × (number (noSheet 24) (Open 0) off ≡ 1)
     -- 15 before 7; open skips it
     × (number (givenD 0 rising) Show off ≡ 15) × (number (givenD 0 rising) Show unheld ≡ 15)
     × (number (givenD 0 rising) Back (strange 0) ≡ 15) × (number (givenD 0 rising) Back (strange 5) ≡ 15)
-    × (number (givenD 0 rising) Open off ≡ 7)
+    × (number (givenD 0 rising) (Open 3) off ≡ 7)
+    -- 18 before 7 and 9: no field, a field beyond the sheet; and a session with such a mask is malformed
+    × (number (givenD 0 rising) (Open 0) off ≡ 18) × (number (givenD 1 []) (Open 4) off ≡ 18)
+    × (number (givenD 0 rising) (Open 7) off ≡ 18) × (number (givenD 1 []) (Open 0xFFFFFFFF) off ≡ 18)
+    × (number (givenD 0 rising) Show (opened 0) ≡ 15) × (number (givenD 0 rising) Show (opened 4) ≡ 15)
+    × (number (givenD 1 rising) (Open 1) off ≡ 0) × (number (givenD 1 rising) Show (opened 2) ≡ 0)
     -- 7, for the engine and for the decision, before 9; engine 2 is taken at reach 1
-    × (number (narrow 0 []) Show opened ≡ 7)
-    × (number (narrow 2 []) (decides CHOOSE 1 0) opened ≡ 7) × (number (narrow 2 []) (decides CHOOSE 0 1) opened ≡ 7)
-    × (number (narrow 2 []) (decides CHOOSE 0 0) opened ≡ 9) × (number (narrow 3 []) (decides CHOOSE 0 0) opened ≡ 9)
-    × (number (narrow 2 (0 ∷ [])) (decides CHOOSE 0 0) opened ≡ 0)
+    × (number (narrow 0 []) Show (opened 1) ≡ 7)
+    × (number (narrow 2 []) (decides CHOOSE 1 0) (opened 1) ≡ 7) × (number (narrow 2 []) (decides CHOOSE 0 1) (opened 1) ≡ 7)
+    × (number (narrow 2 []) (decides CHOOSE 0 0) (opened 1) ≡ 9) × (number (narrow 3 []) (decides CHOOSE 0 0) (opened 1) ≡ 9)
+    × (number (narrow 2 (0 ∷ [])) (decides CHOOSE 0 0) (opened 1) ≡ 0)
     -- a kind that is none of the four
-    × (number (narrow 2 []) (decides 0 0 0) opened ≡ 7) × (number (narrow 2 []) (decides 5 0 0) opened ≡ 7)
+    × (number (narrow 2 []) (decides 0 0 0) (opened 1) ≡ 7) × (number (narrow 2 []) (decides 5 0 0) (opened 1) ≡ 7)
     -- 9 before 10, 11 and 13
     × (number (givenD 1 (0 ∷ 0 ∷ [])) (decides STRIKE 0 0) struck ≡ 9)
-    × (number (givenD 1 (0 ∷ [])) (decides WITHDRAW-CHOICE 0 0) opened ≡ 9) × (number (givenD 1 (1 ∷ 2 ∷ [])) Back opened ≡ 9)
+    × (number (givenD 1 (0 ∷ [])) (decides WITHDRAW-CHOICE 0 0) (opened 3) ≡ 9) × (number (givenD 1 (1 ∷ 2 ∷ [])) Back (opened 3) ≡ 9)
     -- 10 and 11 before 12, and 13
     × (number (givenD 1 rising) (decides STRIKE 0 0) struck ≡ 10) × (number (givenD 1 rising) (decides WITHDRAW-CHOICE 0 0) full ≡ 11)
-    × (number (givenD 1 rising) Back opened ≡ 13)
+    × (number (givenD 1 rising) Back (opened 3) ≡ 13)
     -- 12 before 14; back is not refused by 12
-    × (number (givenD 1 rising) (decides CHOOSE 0 0) full ≡ 12) × (number (givenD 1 rising) (decides CHOOSE 0 0) opened ≡ 14)
+    × (number (givenD 1 rising) (decides CHOOSE 0 0) full ≡ 12) × (number (givenD 1 rising) (decides CHOOSE 0 0) (opened 3) ≡ 14)
     × (number (givenD 1 rising) Back full ≡ 0)
-unfolding pastOf wipedOut offers passes passesOver noneEmpty neighbourhood fieldsWithin widen allFields closing supported supportedBy
-    partner largest sweeps sweep someEmpty empty cut same count only countBits countIn someBit someIn keepBits keepIn maskOf bit has pad
-    someBelow allBelow tabulate occurrences number first causes judged malformed noEngine isOrder spaceShort reversible allOnSheet onSheet
-    inForce sameDecision without changeBy backed step otherChosen starts startSet offersOf wiped outlineOf refusalFrom numbers items
+unfolding pastOf wipedOut offers stays isSelected passesOver noneEmpty neighbourhood fieldsWithin widen allFields closing supported
+    supportedBy partner largest sweeps sweep someEmpty empty cut same count only countBits countIn someBit someIn keepBits keepIn maskOf bit has pad
+    someBelow allBelow tabulate occurrences number first causes judged malformed noEngine isOrder spaceShort noSelection reversible
+    allOnSheet onSheet inForce sameDecision without changeBy backed step otherChosen starts startSet offersOf wiped outlineOf refusalFrom numbers items
     numberAt groups pick advance fieldStart ruleStart sheetProblem runs pairs
 order-of-causes = (
+  refl,
+  refl,
+  refl,
+  refl,
+  refl,
+  refl,
+  refl,
+  refl,
+  refl,
   refl,
   refl,
   refl,

@@ -6,10 +6,10 @@ use Prim.Native.Nat.{ℕ, _≤_, _<_}
 use native.Mathlib.Omega.{arith}
 use lib.Dec.{ltb}
 use lib.ListN.{length}
-use borrow.Author.Tests.{eqb-true, eq-eqb, ne-eqb, ltb-false}
+use borrow.Author.Tests.{eqb-true, eq-eqb, ne-eqb, ltb-false, le-ltb}
 use Rattle.limits.specs.Limits.{mostEvents}
 use Rattle.limits.specs.Refusals.{TOO-SHORT, UNKNOWN, NO-ORDER, ADDED-AGAIN, NOT-IN-FORCE, NO-ROOM, NOTHING-PAST}
-use Rattle.limits.specs.Refusals.{WIPED-OUT, MALFORMED}
+use Rattle.limits.specs.Refusals.{WIPED-OUT, MALFORMED, NO-SELECTION}
 use Rattle.masks.specs.Tests.{never}
 use Rattle.sheet.specs.Sources.{refusal, numbers, ofBytes}
 use Rattle.accepted.specs.declared.outline.Outline.{Outline}
@@ -18,8 +18,8 @@ use Rattle.accepted.specs.Refused.{refusal-few}
 use Rattle.ledger.specs.declared.Call.{Call}
 use Rattle.ledger.specs.declared.Call.the-variants.{Open, Show, Decide, Back, CoilOn}
 use Rattle.ledger.specs.Ledger.{Ledger, Given, Cause, first, step, spaceShort, spaceCauses, sheetCauses, allOnSheet}
-use Rattle.ledger.specs.Ledger.{reversible, malformed, isOrder, sessionCauses, engineCauses, placeCauses, orderCauses, stepCauses}
-use Rattle.ledger.specs.Ledger.{offersCauses, judged, causes, number}
+use Rattle.ledger.specs.Ledger.{noSelection, reversible, malformed, isOrder, sessionCauses, engineCauses, placeCauses, orderCauses}
+use Rattle.ledger.specs.Ledger.{stepCauses, offersCauses, judged, causes, number}
 use Rattle.ledger.specs.Causes.{None, Avoids, Numbered, avoids-++, first-end, first-applies, first-next, first-none, first-here}
 use Rattle.ledger.specs.Causes.{first-there, first-both, first-avoids}
 
@@ -59,19 +59,26 @@ not-judged k h = record {
 not-judged-0 : NotJudged 0
 not-judged-0 = not-judged 0 (λ a b. omega arith)
 
-session-avoids : (k : ℕ) (o : Outline) (c : Call) (l : Ledger) → (malformed o l ≡ true → MALFORMED ≡ k → ⊥)
-    → Avoids k (sessionCauses o c l)
-session-avoids k o Open l n = tt
-session-avoids k o Show l n = (n, tt)
-session-avoids k o (Decide e) l n = (n, tt)
-session-avoids k o Back l n = (n, tt)
-session-avoids k o CoilOn l n = (n, tt)
+-- k is not 15 where the ledger is malformed, and not 18 where the call is open
+pub record NotOfSession (k : ℕ) (o : Outline) (c : Call) (l : Ledger) : Type 0 where
+  pub not-15 : malformed o l ≡ true → MALFORMED ≡ k → ⊥
+  pub not-18 : (selected : ℕ) → c ≡ Open selected → NO-SELECTION ≡ k → ⊥
+
+session-avoids : (k : ℕ) (o : Outline) (c : Call) (l : Ledger) → NotOfSession k o c l → Avoids k (sessionCauses o c l)
+session-avoids k o (Open selected) l n = (λ _. n .not-18 selected refl, tt)
+session-avoids k o Show l n = (n .not-15, tt)
+session-avoids k o (Decide e) l n = (n .not-15, tt)
+session-avoids k o Back l n = (n .not-15, tt)
+session-avoids k o CoilOn l n = (n .not-15, tt)
+
+not-of-session-0 : (o : Outline) (c : Call) (l : Ledger) → NotOfSession 0 o c l
+not-of-session-0 o c l = record { not-15 = λ _ z. omega arith; not-18 = λ _ _ z. omega arith }
 
 engine-avoids : (k engine : ℕ) → NotJudged k → Avoids k (engineCauses engine)
 engine-avoids k engine n = (λ _. n .not-7, tt)
 
 place-avoids : (k : ℕ) (o : Outline) (c : Call) → NotJudged k → Avoids k (placeCauses o c)
-place-avoids k o Open n = tt
+place-avoids k o (Open selected) n = tt
 place-avoids k o Show n = tt
 place-avoids k o (Decide e) n = (λ _. n .not-7, tt)
 place-avoids k o Back n = tt
@@ -81,13 +88,13 @@ order-avoids : (k : ℕ) (o : Outline) (order : List ℕ) → NotJudged k → Av
 order-avoids k o order n = (λ _. n .not-9, tt)
 
 step-avoids : (k : ℕ) (c : Call) (l : Ledger) → NotJudged k → Avoids k (stepCauses c l)
-step-avoids k Open l n = tt
+step-avoids k (Open selected) l n = tt
 step-avoids k Show l n = tt
 step-avoids k (Decide e) l n = (λ _. n .not-10, (λ _. n .not-11, (λ _. n .not-12, tt)))
 step-avoids k Back l n = (λ _. n .not-13, tt)
 step-avoids k CoilOn l n = tt
 
--- ---- 15, 7 and 9 to 13
+-- ---- 15 or 18, 7 and 9 to 13
 
 module _ (o : Outline) (c : Call) (engine : ℕ) (order : List ℕ) (l : Ledger) where
   abbrev found : ℕ
@@ -101,7 +108,7 @@ module _ (o : Outline) (c : Call) (engine : ℕ) (order : List ℕ) (l : Ledger)
   placed = placeCauses o c ++ late
 
   pub session-numbered : Numbered (sessionCauses o c l)
-  session-numbered = session-avoids 0 o c l (λ _ z. omega arith)
+  session-numbered = session-avoids 0 o c l (not-of-session-0 o c l)
 
   engine-numbered : Numbered (engineCauses engine)
   engine-numbered = engine-avoids 0 engine not-judged-0
@@ -115,7 +122,7 @@ module _ (o : Outline) (c : Call) (engine : ℕ) (order : List ℕ) (l : Ledger)
   step-numbered : Numbered (stepCauses c l)
   step-numbered = step-avoids 0 c l not-judged-0
 
-  judged-avoids : (k : ℕ) → (malformed o l ≡ true → MALFORMED ≡ k → ⊥) → NotJudged k → Avoids k (judged o c engine order l)
+  judged-avoids : (k : ℕ) → NotOfSession k o c l → NotJudged k → Avoids k (judged o c engine order l)
   unfolding judged
   judged-avoids k m n =
       avoids-++ k (sessionCauses o c l) (engineCauses engine ++ placed) (session-avoids k o c l m)
@@ -124,7 +131,7 @@ module _ (o : Outline) (c : Call) (engine : ℕ) (order : List ℕ) (l : Ledger)
       (avoids-++ k (orderCauses o order) (stepCauses c l) (order-avoids k o order n) (step-avoids k c l n))))
 
   judged-numbered : Numbered (judged o c engine order l)
-  judged-numbered = judged-avoids 0 (λ _ z. omega arith) not-judged-0
+  judged-numbered = judged-avoids 0 (not-of-session-0 o c l) not-judged-0
 
   -- Each stage decides where those before it have no cause that applies.
   pub judged-session : (k : ℕ) → (k ≡ 0 → ⊥) → k ≡ first (sessionCauses o c l) → k ≡ found
@@ -220,7 +227,7 @@ module _ (g : Given) (c : Call) (l : Ledger) where
       after-sheet e = after-space (first-there (sheetCauses (g .sheet)) _ sheet-numbered
           (sym (first-next _ _ _ (ap not (eq-eqb (refusal (ofBytes (g .sheet))) 0 r)) first-end)) e)
 
-      -- 15, 7 and 9 to 13
+      -- 15 or 18, 7 and 9 to 13
       pub number-judged : (k : ℕ) → (k ≡ 0 → ⊥) → k ≡ first early → k ≡ number g c l
       number-judged k n e = after-sheet (first-here early _ early-numbered k n e)
 
@@ -228,8 +235,8 @@ module _ (g : Given) (c : Call) (l : Ledger) where
       pub number-offers : first early ≡ 0 → {k : ℕ} → k ≡ first (offersCauses xs (step c l)) → k ≡ number g c l
       number-offers z e = after-sheet (first-there early _ early-numbered z e)
 
-  -- A number past 6 that is none of 7 and 9 to 14 is not given; nor is 15, where the ledger is not malformed.
-  pub number-avoids : (k : ℕ) → 6 < k → (WIPED-OUT ≡ k → ⊥) → (malformed (outlineOf xs) l ≡ true → MALFORMED ≡ k → ⊥)
+  -- A number past 6 that is none of 7 and 9 to 14 is not given; nor is 15, where the ledger is not malformed, nor 18 by a call but open.
+  pub number-avoids : (k : ℕ) → 6 < k → (WIPED-OUT ≡ k → ⊥) → NotOfSession k (outlineOf xs) c l
       → (7 ≤ k → k ≤ 13 → k ≡ 8) → number g c l ≡ k → ⊥
   unfolding number causes
   number-avoids k h w m n = first-avoids k (causes g c l) (λ z. omega arith) (
@@ -258,10 +265,24 @@ module _ (g : Given) (c : Call) (l : Ledger) where
 
 -- ---- a ledger that is not malformed
 
-pub well-formed : (o : Outline) (l : Ledger) → malformed o l ≡ false
-    → (allOnSheet o (l .decisions) ≡ true) × (length (l .events) ≤ mostEvents) × (reversible o (l .events) (l .decisions) ≡ true)
+pub record WellFormed (o : Outline) (l : Ledger) : Type 0 where
+  pub on : allOnSheet o (l .decisions) ≡ true
+  pub few : length (l .events) ≤ mostEvents
+  pub reverses : reversible o (l .events) (l .decisions) ≡ true
+  pub selects : noSelection o (l .selected) ≡ false
+
+pub well-formed : (o : Outline) (l : Ledger) → malformed o l ≡ false → WellFormed o l
 unfolding malformed
 well-formed o l e =
-    let a = or-left _ _ e in
-    let b = or-right (not (allOnSheet o (l .decisions))) _ e in
-    (not-back _ a, ltb-false mostEvents _ (or-left _ _ b), not-back _ (or-right (ltb mostEvents (length (l .events))) _ b))
+    let a = or-right (not (allOnSheet o (l .decisions))) _ e in
+    let b = or-right (ltb mostEvents (length (l .events))) _ a in
+    record {
+      on = not-back _ (or-left _ _ e);
+      few = ltb-false mostEvents _ (or-left _ _ a);
+      reverses = not-back _ (or-left _ _ b);
+      selects = or-right (not (reversible o (l .events) (l .decisions))) _ b;
+    }
+
+pub formed-by : (o : Outline) (l : Ledger) → WellFormed o l → malformed o l ≡ false
+unfolding malformed
+formed-by o l w = rw (w .on, le-ltb mostEvents (length (l .events)) (w .few), w .reverses, w .selects)

@@ -10,6 +10,7 @@ use borrow.Author.Tests.{eqb-true, eq-eqb}
 use Rattle.masks.specs.Tests.{never, bool-cases, iff-eq, and-l, and-r, and-by, or-l, or-r, or-at}
 use Rattle.masks.specs.Masks.{keepBits, someBit}
 use Rattle.masks.specs.Pick.{pick, pick-true, pick-false}
+use Rattle.consistency.specs.Neighbourhood.{neighbourhood}
 use Rattle.consistency.specs.Offers.{offers, wipedOut}
 use Rattle.sheet.specs.Sources.{numbers, ofBytes}
 use Rattle.accepted.specs.declared.outline.Outline.{Outline}
@@ -142,54 +143,65 @@ alike-reversible o [] ds es a = refl
 alike-reversible o (e ∷ past) ds es a =
     ap₂ _&&_ (alike-revertible ds es a o (changeOf e)) (alike-reversible o past _ _ (alike-reverted ds es a (changeOf e)))
 
--- ---- ledgers that are the same: the same decisions in force, and the same events
+-- ---- ledgers that are the same: the same decisions in force, the same events, the same selected fields
 
 pub record SameLedger (l m : Ledger) : Type 0 where
   pub held : Alike (l .decisions) (m .decisions)
   pub past : l .events ≡ m .events
+  pub selected : l .selected ≡ m .selected
 
 pub same-ledger : (l : Ledger) → SameLedger l l
-same-ledger l = record { held = λ d. refl; past = refl }
+same-ledger l = record { held = λ d. refl; past = refl; selected = refl }
 
 pub same-then : {l m n : Ledger} → SameLedger l m → SameLedger m n → SameLedger l n
-same-then s t = record { held = λ d. s .held d ∙ t .held d; past = s .past ∙ t .past }
+same-then s t = record { held = λ d. s .held d ∙ t .held d; past = s .past ∙ t .past; selected = s .selected ∙ t .selected }
 
 module _ (l m : Ledger) where
-  -- The offers depend on the decisions in force alone.
-  pub alike-offers : (xs : List ℕ) → Alike (l .decisions) (m .decisions) → offersOf xs l ≡ offersOf xs m
+  -- The offers depend on the decisions in force and on the selected fields alone.
+  pub alike-offers : (xs : List ℕ) → Alike (l .decisions) (m .decisions) → l .selected ≡ m .selected → offersOf xs l ≡ offersOf xs m
   unfolding offersOf
-  alike-offers xs a = ap (offers (sheetProblem xs) (reachOf xs)) (alike-start _ _ a (outlineOf xs))
+  alike-offers xs a e =
+      let P = sheetProblem xs in
+      ap₂ (offers P (neighbourhood P (reachOf xs))) e (alike-start _ _ a (outlineOf xs))
 
-  pub alike-wiped : (xs : List ℕ) → Alike (l .decisions) (m .decisions) → wiped xs l ≡ wiped xs m
+  pub alike-wiped : (xs : List ℕ) → Alike (l .decisions) (m .decisions) → l .selected ≡ m .selected → wiped xs l ≡ wiped xs m
   unfolding wiped
-  alike-wiped xs a = ap (wipedOut (sheetProblem xs) (reachOf xs)) (alike-start _ _ a (outlineOf xs))
+  alike-wiped xs a e =
+      let P = sheetProblem xs in
+      ap₂ (wipedOut P (neighbourhood P (reachOf xs))) e (alike-start _ _ a (outlineOf xs))
 
   pub same-malformed : (o : Outline) → SameLedger l m → malformed o l ≡ malformed o m
   unfolding malformed
-  same-malformed o s = rw (s .past, alike-on _ _ (s .held) o, alike-reversible o (m .events) _ _ (s .held))
+  same-malformed o s = rw (s .past, alike-on _ _ (s .held) o, alike-reversible o (m .events) _ _ (s .held), s .selected)
 
-backed-same : (past : List Event) (ds es : List Decision) → Alike ds es → SameLedger (backed past ds) (backed past es)
+backed-same : (past : List Event) (ds es : List Decision) (m n : ℕ) → Alike ds es → m ≡ n
+    → SameLedger (backed past ds m) (backed past es n)
 unfolding backed
-backed-same [] ds es a = record { held = a; past = refl }
-backed-same (e ∷ past) ds es a = record { held = alike-reverted ds es a (changeOf e); past = refl }
+backed-same [] ds es m n a e = record { held = a; past = refl; selected = e }
+backed-same (x ∷ past) ds es m n a e = record { held = alike-reverted ds es a (changeOf x); past = refl; selected = e }
 
 pub step-same : (c : Call) (l m : Ledger) → SameLedger l m → SameLedger (step c l) (step c m)
 unfolding step
-step-same Open l m s = record { held = λ d. refl; past = refl }
+step-same (Open selected) l m s = record { held = λ d. refl; past = refl; selected = refl }
 step-same Show l m s = s
-step-same (Decide e) l m s = record { held = alike-applied _ _ (s .held) (changeOf e); past = ap (λ (es : List Event). e ∷ es) (s .past) }
-step-same Back l m s = rw (s .past) (backed-same (m .events) (l .decisions) (m .decisions) (s .held))
-step-same CoilOn l m s = record { held = s .held; past = refl }
+step-same (Decide e) l m s = record {
+  held = alike-applied _ _ (s .held) (changeOf e);
+  past = ap (λ (es : List Event). e ∷ es) (s .past);
+  selected = s .selected;
+}
+step-same Back l m s =
+    rw (s .past) (backed-same (m .events) (l .decisions) (m .decisions) (l .selected) (m .selected) (s .held) (s .selected))
+step-same CoilOn l m s = record { held = s .held; past = refl; selected = s .selected }
 
 session-same : (o : Outline) (c : Call) (l m : Ledger) → SameLedger l m → sessionCauses o c l ≡ sessionCauses o c m
-session-same o Open l m s = refl
+session-same o (Open selected) l m s = refl
 session-same o Show l m s = rw (same-malformed l m o s)
 session-same o (Decide e) l m s = rw (same-malformed l m o s)
 session-same o Back l m s = rw (same-malformed l m o s)
 session-same o CoilOn l m s = rw (same-malformed l m o s)
 
 step-causes-same : (c : Call) (l m : Ledger) → SameLedger l m → stepCauses c l ≡ stepCauses c m
-step-causes-same Open l m s = refl
+step-causes-same (Open selected) l m s = refl
 step-causes-same Show l m s = refl
 step-causes-same (Decide e) l m s = rw (alike-again _ _ (s .held) (changeOf e), alike-unheld _ _ (s .held) (changeOf e), s .past)
 step-causes-same Back l m s = rw (s .past)
@@ -205,7 +217,8 @@ pub number-same : (g : Given) (c : Call) (l m : Ledger) → SameLedger l m → n
 unfolding number causes
 number-same g c l m s =
     let xs = numbers (ofBytes (g .sheet)) in
-    rw (judged-same (outlineOf xs) c (g .engine) (g .order) l m s, alike-wiped (step c l) (step c m) xs (step-same c l m s .held))
+    let t = step-same c l m s in
+    rw (judged-same (outlineOf xs) c (g .engine) (g .order) l m s, alike-wiped (step c l) (step c m) xs (t .held) (t .selected))
 
 pub after-same : (g : Given) (c : Call) (l m : Ledger) → SameLedger l m → SameLedger (after g c l) (after g c m)
 unfolding after

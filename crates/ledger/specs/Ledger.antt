@@ -1,5 +1,5 @@
--- The plain ledger (01, 'Ledger and calls'): what it holds, the number that it gives a call, its step, and its offers, which it works
--- out from the sheet and what it holds alone. Assumes nothing.
+-- The plain ledger (01, 'Ledger and calls'; 02, request 7): what it holds, the number that it gives a call, its step, and its offers, which
+-- it works out from the sheet and what it holds alone. Assumes nothing.
 use mathlib.Core.Bool.{Bool, true, false, not, _&&_, _||_}
 use mathlib.Core.List.{List, [], _∷_, _++_}
 use Prim.Native.Nat.{ℕ}
@@ -7,11 +7,12 @@ use lib.Dec.{eqb, ltb}
 use lib.ListN.{length, getD}
 use Rattle.limits.specs.Limits.{mostEvents, offersWords, rowsWords, memoryWords}
 use Rattle.limits.specs.Refusals.{TOO-SHORT, UNKNOWN, NO-ORDER, ADDED-AGAIN, NOT-IN-FORCE, NO-ROOM, NOTHING-PAST}
-use Rattle.limits.specs.Refusals.{WIPED-OUT, MALFORMED}
+use Rattle.limits.specs.Refusals.{WIPED-OUT, MALFORMED, NO-SELECTION}
 use Rattle.masks.specs.Tests.{allBelow}
 use Rattle.masks.specs.Masks.{keepBits, someBit}
 use Rattle.masks.specs.Sets.{has}
 use Rattle.masks.specs.Pick.{pick}
+use Rattle.consistency.specs.Neighbourhood.{neighbourhood}
 use Rattle.consistency.specs.Offers.{offers, wipedOut}
 use Rattle.sheet.specs.Sources.{refusal, numbers, ofBytes}
 use Rattle.accepted.specs.declared.outline.Outline.{Outline}
@@ -68,10 +69,11 @@ decides kind field position = Decide (record { kind = kind; field = field; posit
 
 -- ---- what the ledger holds
 
--- The decisions in force, of which it matters only which they are, and the past events, the latest first.
+-- The decisions in force, of which it matters only which they are, the past events, the latest first, and the mask of the selected fields.
 pub record Ledger : Type 0 where
   pub decisions : List Decision
   pub events : List Event
+  pub selected : ℕ
 
 unfoldable pub sameDecision : Decision → Decision → Bool
 sameDecision (choice f v) (choice g u) = eqb f g && eqb v u
@@ -104,22 +106,22 @@ reverted (adds d) ds = without d ds
 reverted (withdraws d) ds = with d ds
 reverted neither ds = ds
 
--- no decisions, no events
-abbrev pub opened : Ledger
-opened = record { decisions = []; events = [] }
+-- no decisions, no events, and a mask of selected fields
+abbrev pub opened : ℕ → Ledger
+opened selected = record { decisions = []; events = []; selected = selected }
 
 -- the latest event dropped and reversed
-unfoldable pub backed : List Event → List Decision → Ledger
-backed [] ds = record { decisions = ds; events = [] }
-backed (e ∷ es) ds = record { decisions = reverted (changeOf e) ds; events = es }
+unfoldable pub backed : List Event → List Decision → ℕ → Ledger
+backed [] ds selected = record { decisions = ds; events = []; selected = selected }
+backed (e ∷ es) ds selected = record { decisions = reverted (changeOf e) ds; events = es; selected = selected }
 
--- The ledger after a call that is accepted.
+-- The ledger after a call that is accepted. Open sets the mask; every other call leaves it.
 unfoldable pub step : Call → Ledger → Ledger
-step Open l = opened
+step (Open selected) l = opened selected
 step Show l = l
-step (Decide e) l = record { decisions = applied (changeOf e) (l .decisions); events = e ∷ l .events }
-step Back l = backed (l .events) (l .decisions)
-step CoilOn l = record { decisions = l .decisions; events = [] }
+step (Decide e) l = record { decisions = applied (changeOf e) (l .decisions); events = e ∷ l .events; selected = l .selected }
+step Back l = backed (l .events) (l .decisions) (l .selected)
+step CoilOn l = record { decisions = l .decisions; events = []; selected = l .selected }
 
 -- ---- its offers. xs are the numbers of the sheet, o is its outline.
 
@@ -140,11 +142,16 @@ starts o ds f v = not (inForce ds (strike f v)) && not (otherChosen o ds f v)
 unfoldable pub startSet : Outline → List Decision → List ℕ
 startSet o ds = tabulate (o .fields) (λ f. keepBits (settings o f) (starts o ds f))
 
+-- at the sheet's reach, under the mask that the ledger holds
 unfoldable pub offersOf : List ℕ → Ledger → List ℕ
-offersOf xs l = offers (sheetProblem xs) (reachOf xs) (startSet (outlineOf xs) (l .decisions))
+offersOf xs l =
+    let P = sheetProblem xs in
+    offers P (neighbourhood P (reachOf xs)) (l .selected) (startSet (outlineOf xs) (l .decisions))
 
 unfoldable pub wiped : List ℕ → Ledger → Bool
-wiped xs l = wipedOut (sheetProblem xs) (reachOf xs) (startSet (outlineOf xs) (l .decisions))
+wiped xs l =
+    let P = sheetProblem xs in
+    wipedOut P (neighbourhood P (reachOf xs)) (l .selected) (startSet (outlineOf xs) (l .decisions))
 
 -- ---- causes of a refusal
 
@@ -184,7 +191,16 @@ spaceCauses g = because (spaceShort g) TOO-SHORT ∷ []
 abbrev pub sheetCauses : List ℕ → List Cause
 sheetCauses sheet = because (not (eqb (refusal (ofBytes sheet)) 0)) (refusal (ofBytes sheet)) ∷ []
 
--- ---- the session: 15, which open skips
+-- ---- the mask of selected fields that open is given: 18
+
+-- it is empty, or names a field beyond the sheet
+unfoldable pub noSelection : Outline → ℕ → Bool
+noSelection o selected = eqb selected 0 || someBit selected (λ f. not (ltb f (o .fields)))
+
+abbrev pub selectionCauses : Outline → ℕ → List Cause
+selectionCauses o selected = because (noSelection o selected) NO-SELECTION ∷ []
+
+-- ---- the session: 15, and at open 18 in its place
 
 unfoldable pub onSheet : Outline → Decision → Bool
 onSheet o (choice f v) = has (o .full) f v
@@ -205,16 +221,17 @@ unfoldable pub reversible : Outline → List Event → List Decision → Bool
 reversible o [] ds = true
 reversible o (e ∷ es) ds = revertible o (changeOf e) ds && reversible o es (reverted (changeOf e) ds)
 
+-- a decision is not on the sheet, there are too many events, they cannot be reversed, or open would refuse the mask
 unfoldable pub malformed : Outline → Ledger → Bool
 malformed o l =
     not (allOnSheet o (l .decisions))
-    || (ltb mostEvents (length (l .events)) || not (reversible o (l .events) (l .decisions)))
+    || (ltb mostEvents (length (l .events)) || (not (reversible o (l .events) (l .decisions)) || noSelection o (l .selected)))
 
 abbrev pub formCauses : Outline → Ledger → List Cause
 formCauses o l = because (malformed o l) MALFORMED ∷ []
 
 abbrev pub sessionCauses : Outline → Call → Ledger → List Cause
-sessionCauses o Open l = []
+sessionCauses o (Open selected) l = selectionCauses o selected
 sessionCauses o Show l = formCauses o l
 sessionCauses o (Decide e) l = formCauses o l
 sessionCauses o Back l = formCauses o l
@@ -239,7 +256,7 @@ abbrev pub settingCauses : Outline → Event → List Cause
 settingCauses o e = because (offSheet o (changeOf e)) UNKNOWN ∷ []
 
 abbrev pub placeCauses : Outline → Call → List Cause
-placeCauses o Open = []
+placeCauses o (Open selected) = []
 placeCauses o Show = []
 placeCauses o (Decide e) = settingCauses o e
 placeCauses o Back = []
@@ -274,7 +291,7 @@ changeCauses e l =
     ∷ []
 
 abbrev pub stepCauses : Call → Ledger → List Cause
-stepCauses Open l = []
+stepCauses (Open selected) l = []
 stepCauses Show l = []
 stepCauses (Decide e) l = changeCauses e l
 stepCauses Back l = because (eqb (length (l .events)) 0) NOTHING-PAST ∷ []
@@ -285,9 +302,9 @@ stepCauses CoilOn l = []
 abbrev pub offersCauses : List ℕ → Ledger → List Cause
 offersCauses xs l = because (wiped xs l) WIPED-OUT ∷ []
 
--- ---- all of them, in 01's order
+-- ---- all of them, in the order of 01 and 02
 
--- 15, 7, 9, 10, 11, 13, 12, for an accepted sheet
+-- 15 (at open 18), 7, 9, 10, 11, 13, 12, for an accepted sheet
 unfoldable pub judged : Outline → Call → ℕ → List ℕ → Ledger → List Cause
 judged o c engine order l =
     sessionCauses o c l ++ (engineCauses engine ++ (placeCauses o c ++ (orderCauses o order ++ stepCauses c l)))

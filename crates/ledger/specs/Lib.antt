@@ -9,4 +9,5 @@ pub mod Judging
 pub mod Laws
 pub mod Orders
 pub mod Sound
+pub mod Selection
 pub mod Theorems

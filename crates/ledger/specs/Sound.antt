@@ -4,13 +4,13 @@ use mathlib.Core.Path.{_≡_, refl, sym, ap, _∙_}
 use mathlib.Core.Logic.{⊎-elim}
 use mathlib.Core.Bool.{Bool, true, false, not, _&&_, _||_, and-false}
 use mathlib.Core.List.{List, [], _∷_}
-use Prim.Native.Nat.{ℕ, _≤_, _<_}
+use Prim.Native.Nat.{ℕ, _<_}
 use native.Mathlib.Omega.{arith}
 use lib.Dec.{eqb}
 use lib.ListN.{length}
-use borrow.Author.Tests.{eqb-true, eqb-false, le-ltb}
+use borrow.Author.Tests.{eqb-true, eqb-false}
 use Rattle.limits.specs.Limits.{mostEvents}
-use Rattle.limits.specs.Refusals.{TOO-NARROW, MALFORMED}
+use Rattle.limits.specs.Refusals.{TOO-NARROW, MALFORMED, NO-SELECTION}
 use Rattle.masks.specs.Tests.{never, bool-cases, and-l, and-r, and-by, or-l}
 use Rattle.masks.specs.Pick.{pick-true, pick-false}
 use Rattle.sheet.specs.Sources.{numbers, ofBytes}
@@ -21,9 +21,9 @@ use Rattle.ledger.specs.declared.Call.{Call}
 use Rattle.ledger.specs.declared.Call.the-variants.{Open, Show, Decide, Back, CoilOn}
 use Rattle.ledger.specs.Ledger.{Decision, Change, adds, withdraws, neither, changeOf, Ledger, sameDecision, inForce, with, without}
 use Rattle.ledger.specs.Ledger.{applied, reverted, opened, backed, step, Given, onSheet, allOnSheet, revertible, reversible}
-use Rattle.ledger.specs.Ledger.{malformed, offSheet, addedAgain, withdrawnUnheld, number, after}
+use Rattle.ledger.specs.Ledger.{noSelection, malformed, offSheet, addedAgain, withdrawnUnheld, number, after}
 use Rattle.ledger.specs.Laws.{decision-at, decision-self, inForce-with, inForce-without, allOn-at, allOn-by, Alike, alike-reversible}
-use Rattle.ledger.specs.Judging.{Clear, none-applies, not-back, well-formed, number-avoids}
+use Rattle.ledger.specs.Judging.{Clear, none-applies, not-back, WellFormed, well-formed, formed-by, number-avoids}
 
 pub and-true : (b : Bool) → (b && true) ≡ b
 and-true true = refl
@@ -65,13 +65,18 @@ here d ds = inForce-with d ds d ∙ or-l _ _ (decision-self d)
 -- ---- what is not malformed
 
 module _ (o : Outline) where
-  formed-by : (l : Ledger) → allOnSheet o (l .decisions) ≡ true → length (l .events) ≤ mostEvents
-      → reversible o (l .events) (l .decisions) ≡ true → malformed o l ≡ false
-  unfolding malformed
-  formed-by l a b c = rw (a, le-ltb mostEvents (length (l .events)) b, c)
+  -- no events
+  fresh-formed : (ds : List Decision) (selected : ℕ) → allOnSheet o ds ≡ true → noSelection o selected ≡ false
+      → malformed o (record { decisions = ds; events = []; selected = selected }) ≡ false
+  fresh-formed ds selected a s = formed-by o (record { decisions = ds; events = []; selected = selected }) (record {
+    on = a;
+    few = omega arith;
+    reverses = unfold reversible in refl;
+    selects = s;
+  })
 
-  pub opened-formed : malformed o opened ≡ false
-  opened-formed = formed-by opened (unfold allOnSheet in refl) (omega arith) (unfold reversible in refl)
+  pub opened-formed : (selected : ℕ) → noSelection o selected ≡ false → malformed o (opened selected) ≡ false
+  opened-formed selected s = fresh-formed [] selected (unfold allOnSheet in refl) s
 
   on-with : (d : Decision) (ds : List Decision) → onSheet o d ≡ true → allOnSheet o ds ≡ true → allOnSheet o (with d ds) ≡ true
   unfolding allOnSheet
@@ -103,32 +108,40 @@ module _ (o : Outline) where
   unfolding step
   decided-formed e l f p a b r =
       let w = well-formed o l f in
-      formed-by (record { decisions = applied (changeOf e) (l .decisions); events = e ∷ l .events })
-      (on-applied (changeOf e) (l .decisions) p (w .0)) (omega arith)
-      (unfold reversible in (and-by _ _ (applied-revertible (changeOf e) (l .decisions) p)
-      (alike-reversible o (l .events) _ _ (applied-back (changeOf e) (l .decisions) a b) ∙ w .2)))
+      formed-by o (record { decisions = applied (changeOf e) (l .decisions); events = e ∷ l .events; selected = l .selected }) (record {
+        on = on-applied (changeOf e) (l .decisions) p (w .on);
+        few = omega arith;
+        reverses = unfold reversible in (and-by _ _ (applied-revertible (changeOf e) (l .decisions) p)
+            (alike-reversible o (l .events) _ _ (applied-back (changeOf e) (l .decisions) a b) ∙ w .reverses));
+        selects = w .selects;
+      })
 
   -- the latest event reversed
-  backed-formed : (es : List Event) (ds : List Decision) → allOnSheet o ds ≡ true → length es ≤ mostEvents → reversible o es ds ≡ true
-      → malformed o (backed es ds) ≡ false
-  unfolding backed reversible
-  backed-formed [] ds a b c = formed-by (record { decisions = ds; events = [] }) a b c
-  backed-formed (e ∷ es) ds a b c = formed-by (record { decisions = reverted (changeOf e) ds; events = es })
-      (on-reverted (changeOf e) ds (and-l _ _ c) a) (omega arith) (and-r (revertible o (changeOf e) ds) _ c)
+  backed-formed : (es : List Event) (ds : List Decision) (selected : ℕ)
+      → WellFormed o (record { decisions = ds; events = es; selected = selected }) → malformed o (backed es ds selected) ≡ false
+  unfolding backed
+  backed-formed [] ds selected w = fresh-formed ds selected (w .on) (w .selects)
+  backed-formed (e ∷ es) ds selected w =
+      let r : (revertible o (changeOf e) ds && reversible o es (reverted (changeOf e) ds)) ≡ true = unfold reversible in w .reverses in
+      formed-by o (record { decisions = reverted (changeOf e) ds; events = es; selected = selected }) (record {
+        on = on-reverted (changeOf e) ds (and-l _ _ r) (w .on);
+        few = let n = w .few in omega arith;
+        reverses = and-r (revertible o (changeOf e) ds) _ r;
+        selects = w .selects;
+      })
 
   -- An accepted call keeps a ledger that is not malformed so.
   clear-formed : (c : Call) (engine : ℕ) (order : List ℕ) (l : Ledger) → Clear o c engine order l → malformed o l ≡ false
       → malformed o (step c l) ≡ false
-  clear-formed Open engine order l v f = unfold step in opened-formed
+  clear-formed (Open selected) engine order l v f = unfold step in opened-formed selected (v .of-session .0)
   clear-formed Show engine order l v f = unfold step in f
   clear-formed (Decide e) engine order l v f = decided-formed e l f (v .of-place .0) (v .of-step .0) (v .of-step .1 .0)
-      (let w = well-formed o l f .1 in let n = eqb-false (length (l .events)) mostEvents (v .of-step .1 .1 .0) in omega arith)
+      (let w = well-formed o l f .few in let n = eqb-false (length (l .events)) mostEvents (v .of-step .1 .1 .0) in omega arith)
   clear-formed Back engine order l v f =
-      let w = well-formed o l f in
-      unfold step in backed-formed (l .events) (l .decisions) (w .0) (w .1) (w .2)
+      unfold step in backed-formed (l .events) (l .decisions) (l .selected) (well-formed o l f)
   clear-formed CoilOn engine order l v f =
       let w = well-formed o l f in
-      unfold step in formed-by (record { decisions = l .decisions; events = [] }) (w .0) (omega arith) (unfold reversible in refl)
+      unfold step in fresh-formed (l .decisions) (l .selected) (w .on) (w .selects)
 
 module _ (g : Given) (l : Ledger) where
   abbrev o : Outline
@@ -147,8 +160,18 @@ module _ (g : Given) (l : Ledger) where
 
   -- A call on a ledger that is not malformed does not answer 15.
   pub never-15 : (c : Call) → malformed o l ≡ false → number g c l ≡ MALFORMED → ⊥
-  never-15 c f = number-avoids g c l MALFORMED (omega arith) (λ z. omega arith) (λ e _. never e f) (λ a b. omega arith)
+  never-15 c f =
+      number-avoids g c l MALFORMED (omega arith) (λ z. omega arith)
+      (record { not-15 = λ e _. never e f; not-18 = λ _ _ z. omega arith }) (λ a b. omega arith)
 
   -- No call gives 8, whatever it is given and whatever the ledger holds (02, request 2).
   pub never-8 : (c : Call) → number g c l ≡ TOO-NARROW → ⊥
-  never-8 c = number-avoids g c l TOO-NARROW (omega arith) (λ z. omega arith) (λ _ z. omega arith) (λ a b. omega arith)
+  never-8 c =
+      number-avoids g c l TOO-NARROW (omega arith) (λ z. omega arith)
+      (record { not-15 = λ _ z. omega arith; not-18 = λ _ _ z. omega arith }) (λ a b. omega arith)
+
+  -- No call but open gives 18 (02, request 7).
+  pub never-18 : (c : Call) → ((selected : ℕ) → c ≡ Open selected → ⊥) → number g c l ≡ NO-SELECTION → ⊥
+  never-18 c n =
+      number-avoids g c l NO-SELECTION (omega arith) (λ z. omega arith)
+      (record { not-15 = λ _ z. omega arith; not-18 = λ selected e _. n selected e }) (λ a b. omega arith)

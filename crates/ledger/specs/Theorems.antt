@@ -15,7 +15,8 @@ use Rattle.masks.specs.Masks.{keepBits, bit-keepBits, someBit-at, someBit-by}
 use Rattle.masks.specs.Sets.{has}
 use Rattle.masks.specs.Pick.{pick}
 use Rattle.consistency.specs.SetUps as setUps
-use Rattle.consistency.specs.Problem.{SetUp}
+use Rattle.consistency.specs.Problem.{Problem, SetUp}
+use Rattle.consistency.specs.Neighbourhood.{neighbourhood}
 use Rattle.sheet.specs.Sources.{numbers, ofBytes}
 use Rattle.accepted.specs.declared.outline.Outline.{Outline}
 use Rattle.accepted.specs.Lists.{getD-tabulate}
@@ -131,23 +132,31 @@ module _ (xs : List ℕ) (ds : List Decision) (a : ℕ → ℕ) (o : Obeys xs ds
       field : (f : ℕ) → f < sheetProblem xs .fields → f < fieldsOf xs
       field f h = unfold sheetProblem in h
 
-  pub set-up-kept : (es : List Event) (f : ℕ) → f < fieldsOf xs → has (offersOf xs (record { decisions = ds; events = es })) f (a f) ≡ true
-  set-up-kept es f h = unfold offersOf in
-      setUps.set-up-offered (sheetProblem xs) (startSet (outlineOf xs) ds) a set-up (reachOf xs) f (unfold sheetProblem in h)
+  abbrev P : Problem
+  P = sheetProblem xs
+
+  -- whatever is selected
+  pub set-up-kept : (es : List Event) (selected f : ℕ) → f < fieldsOf xs
+      → has (offersOf xs (record { decisions = ds; events = es; selected = selected })) f (a f) ≡ true
+  set-up-kept es selected f h = unfold offersOf in
+      setUps.set-up-offered P (startSet (outlineOf xs) ds) a set-up (neighbourhood P (reachOf xs)) selected f (unfold sheetProblem in h)
 
   -- so it is not refused as wiped out
-  pub set-up-shown : (es : List Event) → wiped xs (record { decisions = ds; events = es }) ≡ false
-  set-up-shown es = unfold wiped in setUps.set-up-not-wiped (sheetProblem xs) (startSet (outlineOf xs) ds) a set-up (reachOf xs)
+  pub set-up-shown : (es : List Event) (selected : ℕ) → wiped xs (record { decisions = ds; events = es; selected = selected }) ≡ false
+  set-up-shown es selected = unfold wiped in
+      setUps.set-up-not-wiped P (startSet (outlineOf xs) ds) a set-up (neighbourhood P (reachOf xs)) selected
 
 -- ---- a withdrawn decision leaves the page as if it had never been made
 
--- `m` has the decisions that would be in force had d never been made: the others of l, and not d.
+-- `m` has the decisions that would be in force had d never been made: the others of l, and not d. The same fields are selected.
 module _ (xs : List ℕ) (d : Decision) (l m : Ledger)
     (others : (e : Decision) → sameDecision d e ≡ false → inForce (l .decisions) e ≡ inForce (m .decisions) e)
-    (n : inForce (m .decisions) d ≡ false) where
-  pub withdrawn-leaves : (es : List Event) → offersOf xs (record { decisions = without d (l .decisions); events = es }) ≡ offersOf xs m
-  withdrawn-leaves es = alike-offers (record { decisions = without d (l .decisions); events = es }) m xs
-      (λ e. inForce-without d (l .decisions) e ∙ go e (sameDecision d e) refl)
+    (n : inForce (m .decisions) d ≡ false) (s : l .selected ≡ m .selected) where
+  pub withdrawn-leaves : (es : List Event)
+      → offersOf xs (record { decisions = without d (l .decisions); events = es; selected = l .selected }) ≡ offersOf xs m
+  withdrawn-leaves es =
+      alike-offers (record { decisions = without d (l .decisions); events = es; selected = l .selected }) m xs
+      (λ e. inForce-without d (l .decisions) e ∙ go e (sameDecision d e) refl) s
     where
       go : (e : Decision) (b : Bool) → sameDecision d e ≡ b → (inForce (l .decisions) e && not b) ≡ inForce (m .decisions) e
       go e true q = and-false (inForce (l .decisions) e) ∙ sym (ap (inForce (m .decisions)) (sym (decision-at d e q)) ∙ n)
@@ -159,7 +168,7 @@ pub back-undoes : (g : Given) (e : Event) (l : Ledger) → number g (Decide e) l
 unfolding step backed
 back-undoes g e l z =
     let v = none-applies g (Decide e) l z in
-    record { held = applied-back (changeOf e) (l .decisions) (v .of-step .0) (v .of-step .1 .0); past = refl }
+    record { held = applied-back (changeOf e) (l .decisions) (v .of-step .0) (v .of-step .1 .0); past = refl; selected = refl }
 
 -- ---- engine and order alter nothing
 
@@ -178,7 +187,7 @@ admitted-0 = record { not-7 = λ z. omega arith; not-9 = λ z. omega arith }
 -- the causes of the decision that a call names, where none of them decides
 place-skipped : (o : Outline) (c : Call) (rest : List Cause) → Admitted (first (placeCauses o c ++ rest))
     → first (placeCauses o c ++ rest) ≡ first rest
-place-skipped o Open rest t = refl
+place-skipped o (Open selected) rest t = refl
 place-skipped o Show rest t = refl
 place-skipped o (Decide e) rest t = first-skip (placeCauses o (Decide e)) rest (t .not-7, tt)
 place-skipped o Back rest t = refl

@@ -17,9 +17,10 @@ pub struct Event {
     pub position: u32,
 }
 
-// The calls. Choose, strike and the two withdrawals are `Decide`, with the event that they would add.
+// The calls. Open is given the mask of the selected fields. Choose, strike and the two withdrawals are `Decide`, with the event that they
+// would add.
 pub enum Call {
-    Open,
+    Open(u32),
     Show,
     Decide(Event),
     Back,

@@ -61,6 +61,10 @@ WIPED-OUT = 14
 abbrev pub MALFORMED : ℕ
 MALFORMED = 15
 
+-- the mask of selected fields that open is given is empty or names a field beyond the sheet (02, request 7)
+abbrev pub NO-SELECTION : ℕ
+NO-SELECTION = 18
+
 -- the writer met the retired kind (02, request 9)
 abbrev pub RETIRED : ℕ
 RETIRED = 20

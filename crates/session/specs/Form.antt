@@ -6,20 +6,20 @@ use mathlib.Core.List.{List}
 use Prim.Native.Nat.{ℕ, _+_, _-_, _^_, _≤_, _<_}
 use native.Mathlib.Omega.{arith}
 use lib.Bits.{bitAnd}
-use lib.Dec.{eqb, ltb}
+use lib.Dec.{eqb, ltb, leb}
 use lib.ListN.{length, getD, List·getD-eq-default}
 use borrow.Author.Count.{below-more}
-use borrow.Author.Tests.{eqb-true, eq-eqb, ltb-true, ltb-false, lt-ltb, le-ltb}
+use borrow.Author.Tests.{eqb-true, eq-eqb, ltb-true, ltb-false, lt-ltb, le-ltb, leb-true, leb-false, not-true}
 use Rattle.limits.specs.Limits.{mostFields, mostEvents}
 use Rattle.masks.specs.Tests.{never, not-so, bool-cases, iff-eq, and-l, and-r, and-by, allBelow, allBelow-at, allBelow-by}
-use Rattle.masks.specs.Bits.{bit, bit-of-zero, bit-ext, bit-nonzero}
-use Rattle.masks.specs.Masks.{keepBits, bit-keepBits}
+use Rattle.masks.specs.Bits.{bit, bit-of-zero, bit-ext, bit-bound, lt-of-bits, bit-nonzero}
+use Rattle.masks.specs.Masks.{keepBits, bit-keepBits, someBit-at, someBit-by}
 use Rattle.masks.specs.Words.{bit-and-not}
 use Rattle.masks.specs.Sets.{has}
 use Rattle.accepted.specs.declared.outline.Outline.{Outline}
 use Rattle.ledger.specs.declared.Event.{Event}
 use Rattle.ledger.specs.Ledger.{Decision, choice, strike, Change, adds, withdraws, neither, changeOf, sameDecision, inForce, with, without}
-use Rattle.ledger.specs.Ledger.{applied, reverted, onSheet, allOnSheet, revertible, reversible, malformed}
+use Rattle.ledger.specs.Ledger.{applied, reverted, onSheet, allOnSheet, revertible, reversible, noSelection, malformed}
 use Rattle.ledger.specs.Kinds.{change-any}
 use Rattle.ledger.specs.Laws.{inForce-with, inForce-without, allOn-at, allOn-by, Alike, alike-reversible}
 use Rattle.session.specs.declared.Session.{Session}
@@ -197,6 +197,21 @@ module _ (o : Outline) (start : Decisions) (es : List Event) (count : ℕ) where
       → true ≡ reversible o (past es count) (decisionsOf start)
   reversing-end d k z p = sym (p .rest ∙ rw z (unfold past reversible in refl))
 
+-- ---- the selected fields
+
+-- a mask below 2 ^ n names no field at or past n
+pub no-selection-code : (o : Outline) (selected : ℕ) → (eqb selected 0 || leb (2 ^ o .fields) selected) ≡ noSelection o selected
+unfolding noSelection
+no-selection-code o selected = ap (λ (b : Bool). eqb selected 0 || b) (iff-eq _ _
+    (λ e. ⊎-elim (λ q. q) (λ q.
+    let few : selected < 2 ^ o .fields = lt-of-bits (o .fields) selected (λ f l. not-so (bit selected f) (λ b.
+    never (someBit-by selected (λ g. not (ltb g (o .fields))) f b (ap not (le-ltb f (o .fields) l))) q)) in
+    absurd (let z = leb-true (2 ^ o .fields) selected e in omega arith)) (bool-cases _))
+    (λ e. let x = someBit-at selected (λ g. not (ltb g (o .fields))) e in
+    ⊎-elim (λ q. q) (λ q.
+    let low = bit-bound (o .fields) selected (x .0) (leb-false (2 ^ o .fields) selected q) (x .1) in
+    absurd (never (lt-ltb (x .0) (o .fields) low) (not-true (ltb (x .0) (o .fields)) (x .2)))) (bool-cases _)))
+
 -- ---- all of it
 
 module _ (o : Outline) (s : Session) (l : Long (s .decisions)) where
@@ -214,8 +229,16 @@ module _ (o : Outline) (s : Session) (l : Long (s .decisions)) where
     unfolding malformed view
     ill-count h = sym (rw (all-on o (s .decisions) l, sym a, sym b, length-past (s .events) (s .count), lt-ltb mostEvents (s .count) h))
 
-    pub ill-events : (r : Bool) → s .count ≤ mostEvents
-        → r ≡ reversible o (past (s .events) (s .count)) (decisionsOf (s .decisions)) → not r ≡ malformed o (view s)
-    unfolding malformed view
-    ill-events r h e =
-        rw (all-on o (s .decisions) l, sym a, sym b, length-past (s .events) (s .count), le-ltb mostEvents (s .count) h) (ap not e)
+    module _ (h : s .count ≤ mostEvents) where
+      -- what the events and the selected fields decide
+      late : malformed o (view s)
+          ≡ (not (reversible o (past (s .events) (s .count)) (decisionsOf (s .decisions))) || noSelection o (s .selected))
+      unfolding malformed view
+      late = rw (all-on o (s .decisions) l, sym a, sym b, length-past (s .events) (s .count), le-ltb mostEvents (s .count) h)
+
+      pub ill-events : false ≡ reversible o (past (s .events) (s .count)) (decisionsOf (s .decisions)) → true ≡ malformed o (view s)
+      ill-events e = sym (late ∙ rw (sym e))
+
+      pub ill-selection : (r : Bool) → true ≡ reversible o (past (s .events) (s .count)) (decisionsOf (s .decisions))
+          → r ≡ noSelection o (s .selected) → r ≡ malformed o (view s)
+      ill-selection r e q = q ∙ sym (late ∙ rw (sym e))

@@ -16,15 +16,16 @@ use Rattle.ledger.specs.Laws.{SameLedger, same-ledger}
 use Rattle.session.specs.declared.Session.{Session}
 use Rattle.session.specs.declared.decisions.Decisions.{Decisions}
 use Rattle.session.specs.Decisions.{heldIn, appliedIn, revertedIn, change-low}
-use Rattle.session.specs.View.{decisionsOf, inForce-of, noEvent, past, past-push, past-latest, view, withDecisions, withEvents, Sized}
+use Rattle.session.specs.View.{decisionsOf, inForce-of, noEvent, past, past-push, past-latest, view, withDecisions, withEvents}
+use Rattle.session.specs.View.{withSelected, Sized}
 use Rattle.session.specs.Form.{alike-applied-in, alike-reverted-in}
 
 abbrev pub noDecisions : Decisions
 noDecisions = record { choices = replicate mostFields 0; strikes = replicate mostFields 0 }
 
--- no decisions, no events
+-- no decisions, no events, no selected fields
 abbrev pub freshSession : Session
-freshSession = record { decisions = noDecisions; events = replicate mostEvents noEvent; count = 0 }
+freshSession = record { decisions = noDecisions; events = replicate mostEvents noEvent; count = 0; selected = 0 }
 
 -- other decisions and no events; all places of the events as they are
 abbrev pub begun : Session → Decisions → Session
@@ -42,9 +43,9 @@ latest s = getD (s .events) (s .count - 1) noEvent
 abbrev pub undone : Session → Session
 undone s = withEvents (s .events) (s .count - 1) (withDecisions (revertedIn (changeOf (latest s)) (s .decisions)) s)
 
--- The session after a call. Open, back and coil-on leave all places of the events as they are.
+-- The session after a call. Open, back and coil-on leave all places of the events as they are; every call but open leaves the mask.
 unfoldable pub stepped : Call → Session → Session
-stepped Open s = begun s noDecisions
+stepped (Open selected) s = withSelected selected (begun s noDecisions)
 stepped Show s = s
 stepped (Decide e) s = recorded s e
 stepped Back s = undone s
@@ -64,7 +65,7 @@ pub record UndoAsks (s : Session) : Type 0 where
   pub position : latest s .position < 32
 
 abbrev pub StepAsks : Call → Session → Type 0
-StepAsks Open s = Unit {0}
+StepAsks (Open selected) s = Unit {0}
 StepAsks Show s = Unit {0}
 StepAsks (Decide e) s = RecordAsks e s
 StepAsks Back s = UndoAsks s
@@ -80,15 +81,18 @@ module _ (s : Session) (z : Sized s) where
         let low = change-low (e .kind) (e .field) (e .position) (a .field) in
         sym (alike-applied-in (s .decisions) (z .decisions) (changeOf e) low d);
     past = rw (add-one (s .count)) (past-push (s .events) (s .count) e (let r = a .room in let n = z .events in omega arith));
+    selected = refl;
   }
 
-  undo-same : UndoAsks s → SameLedger (view (undone s)) (backed (past (s .events) (s .count)) (decisionsOf (s .decisions)))
+  undo-same : UndoAsks s
+      → SameLedger (view (undone s)) (backed (past (s .events) (s .count)) (decisionsOf (s .decisions)) (s .selected))
   unfolding view backed
   undo-same a = let e = latest s in rw (past-latest (s .events) (s .count) (a .some)) (record {
     held = λ d.
         let low = change-low (e .kind) (e .field) (e .position) (a .field) in
         sym (alike-reverted-in (s .decisions) (z .decisions) (changeOf e) low d);
     past = refl;
+    selected = refl;
   })
 
   none : (d : Decision) → heldIn noDecisions d ≡ inForce [] d
@@ -98,8 +102,12 @@ module _ (s : Session) (z : Sized s) where
 
   -- The session after a call shows the ledger's step.
   pub view-step : (c : Call) → StepAsks c s → SameLedger (view (stepped c s)) (step c (view s))
-  view-step Open a = unfold view stepped step in (record { held = λ d. inForce-of noDecisions d ∙ none d; past = unfold past in refl })
+  view-step (Open selected) a = unfold view stepped step in (record {
+    held = λ d. inForce-of noDecisions d ∙ none d;
+    past = unfold past in refl;
+    selected = refl;
+  })
   view-step Show a = unfold stepped step in same-ledger (view s)
   view-step (Decide e) a = unfold stepped in record-same e a
   view-step Back a = unfold stepped step view in undo-same a
-  view-step CoilOn a = unfold stepped step view in (record { held = λ d. refl; past = unfold past in refl })
+  view-step CoilOn a = unfold stepped step view in (record { held = λ d. refl; past = unfold past in refl; selected = refl })

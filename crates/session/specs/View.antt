@@ -48,14 +48,17 @@ past es (suc k) = getD es k noEvent ∷ past es k
 
 -- The ledger that a session shows.
 unfoldable pub view : Session → Ledger
-view s = record { decisions = decisionsOf (s .decisions); events = past (s .events) (s .count) }
+view s = record { decisions = decisionsOf (s .decisions); events = past (s .events) (s .count); selected = s .selected }
 
--- a session with other decisions, and with other events
+-- a session with other decisions, with other events, and with another mask of selected fields
 abbrev pub withDecisions : Decisions → Session → Session
-withDecisions d s = record { decisions = d; events = s .events; count = s .count }
+withDecisions d s = record { decisions = d; events = s .events; count = s .count; selected = s .selected }
 
 abbrev pub withEvents : List Event → ℕ → Session → Session
-withEvents es count s = record { decisions = s .decisions; events = es; count = count }
+withEvents es count s = record { decisions = s .decisions; events = es; count = count; selected = s .selected }
+
+abbrev pub withSelected : ℕ → Session → Session
+withSelected selected s = record { decisions = s .decisions; events = s .events; count = s .count; selected = selected }
 
 -- The arrays of a session have their lengths. Every session in memory is so; a record of lists need not be.
 pub record Sized (s : Session) : Type 0 where

@@ -1,10 +1,11 @@
-// Whether a session is malformed: a decision is not on the sheet, the count exceeds 64, or the events cannot be reversed.
+// Whether a session is malformed: a decision is not on the sheet, the count exceeds 64, the events cannot be reversed, or open would refuse
+// its mask of selected fields.
 ghost use mathlib.Core.Path.{_≡_};
 ghost use mathlib.Core.Bool.{true};
 ghost use Prim.Native.Nat.{_≤_, _<_};
 ghost use lib.Dec.{eqb};
 ghost use Rattle.limits.specs.Limits.{mostFields, mostEvents};
-ghost use Rattle.ledger.specs.Ledger.{changeOf, revertible, reversible, malformed};
+ghost use Rattle.ledger.specs.Ledger.{reversible, noSelection, malformed};
 ghost use Rattle.session.specs.Decisions.{Found};
 ghost use Rattle.session.specs.View.{decisionsOf, past, view};
 ghost use Rattle.session.specs.Form.{strangers, masksOnSheet, CanRevert};
@@ -22,6 +23,7 @@ use ledger::WITHDRAW_STRIKE;
 use limits::EVENTS;
 use limits::FIELDS;
 use limits::MOST_EVENTS;
+use masks::one_bit;
 
 // Whether a field and a position are on the sheet.
 pub fn on_sheet(outline: Outline, field: u32, position: u32) -> bool
@@ -94,8 +96,17 @@ fn events_reversible(
     true
 }
 
+// Whether a mask of selected fields is empty or names a field beyond the sheet.
+pub fn no_selection(outline: Outline, selected: u32) -> bool
+    requires { ⌜ outline .fields ≤ mostFields ⌝ }
+    ensures { λ r. ⌜ r ≡ noSelection outline selected ⌝ }
+{
+    (selected == 0) | (one_bit(outline.fields) <= selected)
+}
+
 // Whether a session is malformed.
 pub fn malformed(outline: Outline, session: Session) -> bool
+    requires { ⌜ outline .fields ≤ mostFields ⌝ }
     ensures { λ r. ⌜ r ≡ malformed outline (view session) ⌝ }
 {
     let d = session.decisions;
@@ -112,5 +123,8 @@ pub fn malformed(outline: Outline, session: Session) -> bool
     if MOST_EVENTS < count {
         return true;
     }
-    !events_reversible(outline, d, events, count)
+    if !events_reversible(outline, d, events, count) {
+        return true;
+    }
+    no_selection(outline, session.selected)
 }

@@ -11,12 +11,13 @@ use ledger::Event;
 use limits::EVENTS;
 use limits::FIELDS;
 
-// The decisions in force, and events, of which the first `count` have happened, the oldest first. No offers.
+// The decisions in force; events, of which the first `count` have happened, the oldest first; the mask of the selected fields. No offers.
 #[repr(C)]
 pub struct Session {
     pub decisions: Decisions,
     pub events: [Event; EVENTS],
     pub count: u32,
+    pub selected: u32,
 }
 
 // What a call gives back: its number, and the session after it.
@@ -25,7 +26,7 @@ pub struct Outcome {
     pub session: Session,
 }
 
-// No decisions, no events.
+// No decisions, no events, no selected fields.
 pub fn fresh() -> Session
     ensures { λ r. ⌜ r ≡ freshSession ⌝ }
 {
@@ -43,5 +44,6 @@ pub fn fresh() -> Session
         decisions,
         events: [event; EVENTS],
         count: 0,
+        selected: 0,
     }
 }

@@ -53,13 +53,15 @@ pub fn step(session: Session, call: Call) -> Session
     ensures { λ r. ⌜ r ≡ stepped call session ⌝ }
 {
     match call {
-        Call::Open => {
+        Call::Open(selected) => {
             let none = [0u32; FIELDS];
             let d = Decisions {
                 choices: none,
                 strikes: none,
             };
-            begin(session, d)
+            let mut next = begin(session, d);
+            next.selected = selected;
+            next
         }
         Call::Show => session,
         Call::Decide(e) => record(session, e),

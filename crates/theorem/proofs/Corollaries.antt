@@ -4,6 +4,7 @@ use mathlib.Core.Path.{_≡_, refl, sym, ap, _∙_}
 use mathlib.Core.Bool.{false}
 use mathlib.Core.List.{List, [], _∷_}
 use Prim.Native.Nat.{ℕ}
+use native.Mathlib.Omega.{arith}
 use lib.ListN.{length, take}
 use borrow.Author.Tests.{eq-eqb}
 use Rattle.masks.specs.Pick.{pick-true}
@@ -12,8 +13,9 @@ use Rattle.limits.specs.Refusals.{MALFORMED}
 use Rattle.accepted.specs.Outline.{outlineOf}
 use Rattle.ledger.specs.declared.Event.{Event}
 use Rattle.ledger.specs.declared.Call.{Call}
-use Rattle.ledger.specs.Ledger.{Ledger, Given, opened, step, offersOf, malformed, number, after}
+use Rattle.ledger.specs.Ledger.{Ledger, Given, step, offersOf, malformed, number, after}
 use Rattle.ledger.specs.Laws.{SameLedger, alike-offers}
+use Rattle.ledger.specs.Judging.{Clear, none-applies}
 use Rattle.ledger.specs.Sound.{opened-formed, after-formed, never-15}
 use Rattle.ledger.specs.Theorems.{back-undoes, Admitted, lending, engine-and-order}
 use Rattle.session.specs.declared.Session.{Session}
@@ -23,6 +25,11 @@ use Rattle.theorem.specs.Turns.{Turn, Answered}
 use Rattle.theorem.specs.CallAgrees.{call-number}
 use Rattle.theorem.specs.Follows.{givenTo, numbersOf, fields, next, Agrees, Follows, ends, goes}
 use Rattle.theorem.proofs.Sequence.{Calls, none-yet, then, demand-3}
+
+-- the ledger after an accepted call is its step
+after-step : (g : Given) (c : Call) (l : Ledger) → number g c l ≡ 0 → after g c l ≡ step c l
+unfolding after
+after-step g c l k = pick-true _ _ _ (eq-eqb _ 0 k)
 
 -- ---- no call of such a sequence answers 15
 
@@ -41,10 +48,24 @@ quiet sheet s (t ∷ ts) (then e m cs) l f (goes a rest) =
     ap (λ (x : List ℕ). malformed (outlineOf (numbers (ofBytes x))) (next l t)) (sym e) ∙ after-formed (givenTo t) l (t .call) h in
     goes-so (λ q. never-15 (givenTo t) l (t .call) h (sym (a .numbered) ∙ q)) (quiet sheet (t .session′) ts cs (next l t) k rest)
 
-pub no-15 : (sheet : List ℕ) (s : Session) (t : Turn) (ts : List Turn) → t .call ≡ Call.Open → Calls sheet s (t ∷ ts)
-    → number (givenTo t) (t .call) opened ≡ 0 → None15 (t ∷ ts)
-no-15 sheet s t ts o cs k =
-    quiet sheet s (t ∷ ts) cs opened (opened-formed (outlineOf (numbers (ofBytes sheet)))) (demand-3 sheet s t ts o cs opened k)
+-- the ledger after an accepted open is not malformed
+opened-so : (g : Given) (l : Ledger) (c : Call) (selected : ℕ) → c ≡ Call.Open selected → number g c l ≡ 0 → formed (g .sheet) (after g c l)
+opened-so g l c selected o k =
+    let clear : Clear (outlineOf (numbers (ofBytes (g .sheet)))) (Call.Open selected) (g .engine) (g .order) l =
+    rw o at (none-applies g c l k) in
+    rw (after-step g c l k, o)
+    (unfold step in opened-formed (outlineOf (numbers (ofBytes (g .sheet)))) selected (clear .of-session .0))
+
+pub no-15 : (sheet : List ℕ) (s : Session) (t : Turn) (ts : List Turn) (selected : ℕ) → t .call ≡ Call.Open selected
+    → Calls sheet s (t ∷ ts) → (l : Ledger) → number (givenTo t) (t .call) l ≡ 0 → None15 (t ∷ ts)
+no-15 sheet s t ts selected o (then e m cs) l k = go (demand-3 sheet s t ts selected o (then e m cs) l k)
+  where
+    go : Follows l (t ∷ ts) → None15 (t ∷ ts)
+    go (goes a rest) =
+        goes-so (λ q. let z = sym q ∙ (a .numbered ∙ k) in omega arith)
+        (quiet sheet (t .session′) ts cs (next l t)
+        (ap (λ (x : List ℕ). malformed (outlineOf (numbers (ofBytes x))) (next l t)) (sym e)
+        ∙ opened-so (givenTo t) l (t .call) selected o k) rest)
 
 -- ---- engine, order and what the work spaces hold alter nothing
 
@@ -81,10 +102,8 @@ engine-order-spaces t u a b s p q =
 
 -- ---- back after a change shows the page before it
 
--- the ledger after an accepted call is its step
 next-is-step : (l : Ledger) (t : Turn) → Agrees l t → t .number ≡ 0 → next l t ≡ step (t .call) l
-unfolding after
-next-is-step l t a n = pick-true _ _ _ (eq-eqb _ 0 (sym (a .numbered) ∙ n))
+next-is-step l t a n = after-step (givenTo t) (t .call) l (sym (a .numbered) ∙ n)
 
 pub back-shows-again : (l : Ledger) (t u : Turn) → Agrees l t → Agrees (next l t) u
     → (e : Event) → t .call ≡ Call.Decide e → u .call ≡ Call.Back → t .number ≡ 0 → u .number ≡ 0
@@ -92,4 +111,4 @@ pub back-shows-again : (l : Ledger) (t u : Turn) → Agrees l t → Agrees (next
 back-shows-again l t u a b e c o n m =
     let q : next (next l t) u ≡ step Call.Back (step (Call.Decide e) l) = next-is-step (next l t) u b m ∙ rw (o, next-is-step l t a n, c) in
     let s : SameLedger (next (next l t) u) l = rw q (back-undoes (givenTo t) e l (rw c at (sym (a .numbered) ∙ n))) in
-    (s, b .shown m ∙ alike-offers (next (next l t) u) l (numbersOf u) (s .held))
+    (s, b .shown m ∙ alike-offers (next (next l t) u) l (numbersOf u) (s .held) (s .selected))

@@ -28,7 +28,7 @@ use Rattle.calls.proofs.back.Kinds as back-kinds
 use Rattle.calls.proofs.back.Reads as back-reads
 use Rattle.calls.proofs.coil_on.Kinds as coil-on-kinds
 use Rattle.calls.proofs.coil_on.Reads as coil-on-reads
-use Rattle.theorem.specs.Turns.{Turn, Answered, plain, deciding}
+use Rattle.theorem.specs.Turns.{Turn, Answered, plain, opening, deciding}
 use Rattle.theorem.specs.EveryCall.{EveryCall, every}
 
 -- what a function by value returns
@@ -38,7 +38,7 @@ outcome n s = record { number = n; session = s }
 -- κs are the lifetimes of the slices, a the arguments, r the outcome, and e the parameters at exit
 pub data Called : Turn → Type 0 where
   by-open : (κs : Lfts 5) (a : Dens κs open-kinds.ps) (r : Outcome) (e : AtExit (endedOf 5 open-kinds.ps open-kinds.r) κs)
-      → open-reads.Learnt κs a r e → Called (plain Call.Open (a .0) (a .1) (r .number) (r .session) (e .1))
+      → open-reads.Learnt κs a r e → Called (opening (a .0) (a .1) (r .number) (r .session) (e .1))
   by-show : (κs : Lfts 5) (a : Dens κs show-kinds.ps) (r : Outcome) (e : AtExit (endedOf 5 show-kinds.ps show-kinds.r) κs)
       → show-reads.Learnt κs a r e → Called (plain Call.Show (a .0) (a .1) (r .number) (r .session) (e .1))
   by-choose : (κs : Lfts 5) (a : Dens κs choose-kinds.ps) (r : Outcome) (e : AtExit (endedOf 5 choose-kinds.ps choose-kinds.r) κs)

@@ -31,7 +31,7 @@ use Rattle.belaykeel.proofs.belaykeel_show
 use Rattle.belaykeel.proofs.belaykeel_strike
 use Rattle.belaykeel.proofs.belaykeel_withdraw_choice
 use Rattle.belaykeel.proofs.belaykeel_withdraw_strike
-use Rattle.theorem.specs.Turns.{Turn, Answered, plain, deciding}
+use Rattle.theorem.specs.Turns.{Turn, Answered, plain, opening, deciding}
 use Rattle.theorem.specs.EveryCall.{EveryCall, every, lends}
 
 -- ---- a function's clauses, at every model
@@ -57,7 +57,7 @@ pub record Public (F : Ended) (c : Written F) (routine : Routine) : Type 2 where
 pub data Called : Turn → Type 0 where
   by-open : (κs : Lfts 6) (a : Args belaykeel_open.signature κs) (r : ℕ) (e : AtExit belaykeel_open.ended κs)
       → Learnt belaykeel_open.ended (λ M. belaykeel_open.clauses {M = M}) κs a r e _ (λ w g. refl)
-      → Called (plain Call.Open (now (a .0)) (a .1) r (now (e .0)) (e .1))
+      → Called (opening (now (a .0)) (a .1) r (now (e .0)) (e .1))
   by-show : (κs : Lfts 6) (a : Args belaykeel_show.signature κs) (r : ℕ) (e : AtExit belaykeel_show.ended κs)
       → Learnt belaykeel_show.ended (λ M. belaykeel_show.clauses {M = M}) κs a r e _ (λ w g. refl)
       → Called (plain Call.Show (now (a .0)) (a .1) r (now (e .0)) (e .1))

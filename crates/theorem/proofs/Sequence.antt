@@ -39,7 +39,7 @@ follows sheet s (t ∷ ts) (then e m cs) l a =
     let w = call-agrees l t a (answered m) in goes (w .0) (follows sheet (t .session′) ts cs (next l t) (w .1))
 
 -- The number of an `open` does not depend on what came before it, and neither does the ledger after one that is accepted.
-module _ (g : Given) (c : Call) (o : c ≡ Call.Open) (l m : Ledger) where
+module _ (g : Given) (c : Call) (selected : ℕ) (o : c ≡ Call.Open selected) (l m : Ledger) where
   open-number : number g c l ≡ number g c m
   open-number = rw o (unfold number causes judged step in refl)
 
@@ -49,18 +49,19 @@ module _ (g : Given) (c : Call) (o : c ≡ Call.Open) (l m : Ledger) where
       ∙ sym (pick-true _ _ _ (eq-eqb _ 0 (sym open-number ∙ e))))
 
 -- the first call: whatever the session and whatever the ledger held
-opened : (t : Turn) → t .call ≡ Call.Open → Answered t → (l : Ledger) → number (givenTo t) (t .call) l ≡ 0
+opened : (t : Turn) (selected : ℕ) → t .call ≡ Call.Open selected → Answered t → (l : Ledger) → number (givenTo t) (t .call) l ≡ 0
     → Agrees l t × SameLedger (view (t .session′)) (next l t)
-opened t o m l k =
+opened t selected o m l k =
     let v = view (t .session) in
     let w = call-agrees v t (same-ledger v) m in
     let a = w .0 in
-    let n : t .number ≡ 0 = a .numbered ∙ open-number (givenTo t) (t .call) o v l ∙ k in
-    let e : next v t ≡ next l t = open-after (givenTo t) (t .call) o v l (sym (a .numbered) ∙ n) in (
+    let n : t .number ≡ 0 = a .numbered ∙ open-number (givenTo t) (t .call) selected o v l ∙ k in
+    let e : next v t ≡ next l t = open-after (givenTo t) (t .call) selected o v l (sym (a .numbered) ∙ n) in (
       record {
-        numbered = a .numbered ∙ open-number (givenTo t) (t .call) o v l;
+        numbered = a .numbered ∙ open-number (givenTo t) (t .call) selected o v l;
         decided = λ d. a .decided d ∙ ap (λ (x : Ledger). inForce (x .decisions) d) e;
         happened = a .happened ∙ ap (λ (x : Ledger). x .events) e;
+        selects = a .selects ∙ ap (λ (x : Ledger). x .selected) e;
         shown = λ y. a .shown y ∙ ap (λ (x : Ledger). offersOf (numbersOf t) x) e;
         untouched = a .untouched;
         kept = a .kept;
@@ -69,7 +70,7 @@ opened t o m l k =
     )
 
 -- THE THEOREM
-pub demand-3 : (sheet : List ℕ) (s : Session) (t : Turn) (ts : List Turn) → t .call ≡ Call.Open → Calls sheet s (t ∷ ts)
-    → (l : Ledger) → number (givenTo t) (t .call) l ≡ 0 → Follows l (t ∷ ts)
-demand-3 sheet s t ts o (then e m cs) l k =
-    let w = opened t o (answered m) l k in goes (w .0) (follows sheet (t .session′) ts cs (next l t) (w .1))
+pub demand-3 : (sheet : List ℕ) (s : Session) (t : Turn) (ts : List Turn) (selected : ℕ) → t .call ≡ Call.Open selected
+    → Calls sheet s (t ∷ ts) → (l : Ledger) → number (givenTo t) (t .call) l ≡ 0 → Follows l (t ∷ ts)
+demand-3 sheet s t ts selected o (then e m cs) l k =
+    let w = opened t selected o (answered m) l k in goes (w .0) (follows sheet (t .session′) ts cs (next l t) (w .1))

@@ -42,8 +42,9 @@ module _ (l : Ledger) (t : Turn) (same : SameLedger (view (t .session)) l) (said
   -- what a session shows, piece by piece
   shows : (s : Session) (m : Ledger) → SameLedger (view s) m
       → ((d : Decision) → heldIn (s .decisions) d ≡ inForce (m .decisions) d) × (past (s .events) (s .count) ≡ m .events)
+      × (s .selected ≡ m .selected)
   unfolding view
-  shows s m a = (λ d. sym (inForce-of (s .decisions) d) ∙ a .held d, a .past)
+  shows s m a = (λ d. sym (inForce-of (s .decisions) d) ∙ a .held d, a .past, a .selected)
 
   was-refused : eqb k 0 ≡ false → CallAgrees
   unfolding result after
@@ -59,6 +60,7 @@ module _ (l : Ledger) (t : Turn) (same : SameLedger (view (t .session)) l) (said
           numbered = n ∙ ledgers;
           decided = h .0;
           happened = h .1;
+          selects = h .2;
           shown = λ y. absurd (eqb-false k 0 e (sym n ∙ y));
           untouched = λ y. absurd (eqb-false k 0 e (sym n ∙ y));
           kept = λ _. o;
@@ -81,7 +83,7 @@ module _ (l : Ledger) (t : Turn) (same : SameLedger (view (t .session)) l) (said
       let a : SameLedger (view (t .session′)) (next l t) = rw (s, m) (same-then b i) in
       let h = shows (t .session′) (next l t) a in
       let f : offersOf (numbersOf t) (step (t .call) (view (t .session))) ≡ offersOf (numbersOf t) (next l t) =
-      rw m (alike-offers (step (t .call) (view (t .session))) (step (t .call) l) (numbersOf t) (i .held)) in
+      rw m (alike-offers (step (t .call) (view (t .session))) (step (t .call) l) (numbersOf t) (i .held) (i .selected)) in
       let w : t .left .offers ≡ offersOf (numbersOf t) (next l t) ++ drop (length (offersOf (numbersOf t) (next l t))) (t .lent .offers) =
       ap (λ (a : CallResult). a .offers) q ∙ ap (λ (ms : List ℕ). ms ++ drop (length ms) (t .lent .offers)) f in
       let j : length (offersOf (numbersOf t) (next l t)) ≡ fields t =
@@ -90,6 +92,7 @@ module _ (l : Ledger) (t : Turn) (same : SameLedger (view (t .session)) l) (said
           numbered = n ∙ sym (sym ledgers ∙ y);
           decided = h .0;
           happened = h .1;
+          selects = h .2;
           shown = λ _. rw w (take-at _ _ (fields t) j);
           untouched = λ _. ap (drop (fields t)) w ∙ drop-at (offersOf (numbersOf t) (next l t)) _ (fields t) j
               ∙ ap (λ (x : ℕ). drop x (t .lent .offers)) j;

@@ -9,11 +9,11 @@ use Rattle.ledger.specs.Ledger.{CHOOSE, STRIKE, WITHDRAW-CHOICE, WITHDRAW-STRIK
 use Rattle.session.specs.declared.Session.{Session}
 use Rattle.belaykeel.specs.Parameters
 use Rattle.belaykeel.specs.Parameters.{Passed}
-use Rattle.theorem.specs.Turns.{Turn, Answered, turnOf, plain, deciding}
+use Rattle.theorem.specs.Turns.{Turn, Answered, turnOf, plain, opening, deciding}
 
 -- a call that changes the decisions is of one of the four kinds
 abbrev pub Kinded : Call → Type 0
-Kinded Call.Open = Unit {0}
+Kinded (Call.Open selected) = Unit {0}
 Kinded Call.Show = Unit {0}
 Kinded (Call.Decide e) = (CHOOSE ≤ e .kind) × (e .kind ≤ WITHDRAW-STRIKE)
 Kinded Call.Back = Unit {0}
@@ -29,17 +29,21 @@ EveryCall Called = (c : Call) → Kinded c
 
 -- ---- from a case for each function, over its parameters as it is passed them
 
--- of a call that takes no field and no position, and of one that does
+-- of a call that takes no more than every call does, of open, and of a call that takes a field and a position
 abbrev pub PlainCase : (Turn → Type 0) → Call → Type 0
 PlainCase Called c = (s : Session) (x : Passed Parameters.plain) (n : ℕ) (s′ : Session) (y : Passed Parameters.plain)
     → Answered (plain c s x n s′ y) → Called (plain c s x n s′ y)
+
+abbrev pub OpeningCase : (Turn → Type 0) → Type 0
+OpeningCase Called = (s : Session) (x : Passed Parameters.opening) (n : ℕ) (s′ : Session) (y : Passed Parameters.opening)
+    → Answered (opening s x n s′ y) → Called (opening s x n s′ y)
 
 abbrev pub DecidingCase : (Turn → Type 0) → ℕ → Type 0
 DecidingCase Called kind = (s : Session) (x : Passed Parameters.deciding) (n : ℕ) (s′ : Session) (y : Passed Parameters.deciding)
     → Answered (deciding kind s x n s′ y) → Called (deciding kind s x n s′ y)
 
 pub record Cases (Called : Turn → Type 0) : Type 0 where
-  pub opens : PlainCase Called Call.Open
+  pub opens : OpeningCase Called
   pub shows : PlainCase Called Call.Show
   pub chooses : DecidingCase Called CHOOSE
   pub strikes : DecidingCase Called STRIKE
@@ -57,6 +61,9 @@ module _ (Called : Turn → Type 0) (k : Cases Called) (s : Session) (sheet : Li
   abbrev short : List ℕ → List ℕ → List ℕ → Passed Parameters.plain
   short a b c = (lends sheet, (engine, (lends order, (lends a, (lends b, (lends c, tt))))))
 
+  abbrev masked : ℕ → List ℕ → List ℕ → List ℕ → Passed Parameters.opening
+  masked selected a b c = (lends sheet, (engine, (lends order, (selected, (lends a, (lends b, (lends c, tt)))))))
+
   abbrev long : (f v : ℕ) → List ℕ → List ℕ → List ℕ → Passed Parameters.deciding
   long f v a b c = (lends sheet, (engine, (lends order, (f, (v, (lends a, (lends b, (lends c, tt))))))))
 
@@ -68,6 +75,9 @@ module _ (Called : Turn → Type 0) (k : Cases Called) (s : Session) (sheet : Li
 
   abbrev plainly : (c : Call) → PlainCase Called c → In c
   plainly c case = case s (short offers rows memory) n s′ (short offers′ rows′ memory′)
+
+  abbrev openly : (selected : ℕ) → OpeningCase Called → In (Call.Open selected)
+  openly selected case = case s (masked selected offers rows memory) n s′ (masked selected offers′ rows′ memory′)
 
   abbrev decidingly : (kind f v : ℕ) → DecidingCase Called kind → In (decides kind f v)
   decidingly kind f v case = case s (long f v offers rows memory) n s′ (long f v offers′ rows′ memory′)
@@ -81,7 +91,7 @@ module _ (Called : Turn → Type 0) (k : Cases Called) (s : Session) (sheet : Li
   every-kind (suc (suc (suc (suc (suc kind))))) f v a b = absurd (omega arith)
 
   every-by : (c : Call) → Kinded c → In c
-  every-by Call.Open _ = plainly Call.Open (k .opens)
+  every-by (Call.Open selected) _ = openly selected (k .opens)
   every-by Call.Show _ = plainly Call.Show (k .shows)
   every-by (Call.Decide e) q = every-kind (e .kind) (e .field) (e .position) (q .0) (q .1)
   every-by Call.Back _ = plainly Call.Back (k .goes-back)

@@ -1,5 +1,5 @@
--- What demand 3 says of a sequence of calls: after every call, number, decisions, events and offers are those of the ledger, which is
--- fed the calls and what they are given, and never the session. Assumes nothing.
+-- What demand 3 says of a sequence of calls: after every call, number, decisions, events, selected fields and offers are those of the
+-- ledger, which is fed the calls and what they are given, and never the session. Assumes nothing.
 use mathlib.Core.Path.{_≡_}
 use mathlib.Core.List.{List, [], _∷_}
 use Prim.Native.Nat.{ℕ}
@@ -33,6 +33,8 @@ pub record Agrees (l : Ledger) (t : Turn) : Type 0 where
   -- the decisions in force, as a set, and the events in their order, the latest first
   pub decided : (d : Decision) → heldIn (t .session′ .decisions) d ≡ inForce (next l t .decisions) d
   pub happened : past (t .session′ .events) (t .session′ .count) ≡ next l t .events
+  -- the mask of the selected fields
+  pub selects : t .session′ .selected ≡ next l t .selected
   -- where the number is 0, the n masks written are the ledger's offers after the step, and later words are untouched
   pub shown : t .number ≡ 0 → take (fields t) (t .left .offers) ≡ offersOf (numbersOf t) (next l t)
   pub untouched : t .number ≡ 0 → drop (fields t) (t .left .offers) ≡ drop (fields t) (t .lent .offers)

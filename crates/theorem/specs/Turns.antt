@@ -41,9 +41,12 @@ turnOf c s sheet engine order offers rows memory n s′ offers′ rows′ memory
   left = spaces offers′ rows′ memory′;
 }
 
--- the turn of a call that takes no field and no position, and of one that does
+-- the turn of a call that takes no more than every call does, of open, and of a call that takes a field and a position
 abbrev pub plain : Call → Session → Passed Parameters.plain → ℕ → Session → Passed Parameters.plain → Turn
 plain c = turn Parameters.plain (turnOf c)
+
+abbrev pub opening : Session → Passed Parameters.opening → ℕ → Session → Passed Parameters.opening → Turn
+opening = turn Parameters.opening (λ s sheet engine order selected. turnOf (Call.Open selected) s sheet engine order)
 
 abbrev pub deciding : (kind : ℕ) → Session → Passed Parameters.deciding → ℕ → Session → Passed Parameters.deciding → Turn
 deciding kind = turn Parameters.deciding (λ s sheet engine order field position. turnOf (decides kind field position) s sheet engine order)

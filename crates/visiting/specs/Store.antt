@@ -18,7 +18,7 @@ use Rattle.masks.specs.Bits.{bit, bit-of-zero, bit-bound, Within}
 use Rattle.masks.specs.Words.{bit-or, bit-one}
 use Rattle.masks.specs.Sets.{has, _⊆_, ⊆-refl, ⊆-trans, getD-zeros}
 use Rattle.consistency.specs.Problem.{Problem, allFields}
-use Rattle.consistency.specs.Offers.{passesOver}
+use Rattle.consistency.specs.Passing.{passesOver}
 use Rattle.consistency.specs.Left.{leftIn, passesOver-again}
 use Rattle.network.specs.Stored.{Stored, wordsOf}
 use Rattle.closing.specs.Asks.{Masks}

@@ -11,9 +11,11 @@ use Rattle.masks.specs.Bits.{bit, bit-of-zero, Within}
 use Rattle.masks.specs.Words.{bit-and, bit-or, clear, clear-within, clear-gone}
 use Rattle.masks.specs.Sets.{has}
 use Rattle.consistency.specs.Problem.{Problem, allFields}
-use Rattle.consistency.specs.Offers.{passesOver, offers, wipedOut}
+use Rattle.consistency.specs.Passing.{passesOver}
+use Rattle.consistency.specs.Offers.{offers, wipedOut}
 use Rattle.closing.specs.Shrunk.{or-within, Shrunk, shrunk-none, shrunk-then}
-use Rattle.closing.specs.Frame.{Live, Removed, Reaches, wiped-same, passes-same, removed-none, removed-steady, removed-live, removed-gone}
+use Rattle.closing.specs.Frame.{Live, Removed, WhereTested, wiped-same, passes-same, removed-none, removed-steady, removed-live}
+use Rattle.closing.specs.Frame.{removed-gone}
 
 module _ (P : Problem) (W f : ℕ) where
   -- in W at most f changed
@@ -27,7 +29,7 @@ module _ (P : Problem) (W f : ℕ) where
     pub marks : Within touched (allFields P)
     pub live : Live P S
     pub lefts : Within left (getD S f 0)
-    pub steady : Reaches P W f (λ k. offers P k S ≡ offers P k S0)
+    pub steady : WhereTested P W f (λ hood selected. offers P hood selected S ≡ offers P hood selected S0)
     pub passed : Own touched → (v : ℕ) → has S f v ≡ true → bit left v ≡ false → passesOver P W S f v ≡ true
 
   -- What a visit leaves: the same offers; and if in W nothing but f changed, every setting of f passes. Or else the set is wiped out.
@@ -36,9 +38,9 @@ module _ (P : Problem) (W f : ℕ) where
     pub shrunk : wiped ≡ false → Shrunk S0 S touched
     pub marks : wiped ≡ false → Within touched (allFields P)
     pub live : wiped ≡ false → Live P S
-    pub steady : wiped ≡ false → Reaches P W f (λ k. offers P k S ≡ offers P k S0)
+    pub steady : wiped ≡ false → WhereTested P W f (λ hood selected. offers P hood selected S ≡ offers P hood selected S0)
     pub passed : wiped ≡ false → Own touched → (v : ℕ) → has S f v ≡ true → passesOver P W S f v ≡ true
-    pub none : wiped ≡ true → Reaches P W f (λ k. wipedOut P k S0 ≡ true)
+    pub none : wiped ≡ true → WhereTested P W f (λ hood selected. wipedOut P hood selected S0 ≡ true)
 
   module _ (S0 : List ℕ) where
     pub visiting-start : Live P S0 → Visiting S0 (getD S0 f 0) 0 S0
@@ -48,7 +50,7 @@ module _ (P : Problem) (W f : ℕ) where
       marks = λ v e. absurd (never e (bit-of-zero v));
       live = l;
       lefts = λ v e. e;
-      steady = λ k o w. refl;
+      steady = λ hood selected w i. refl;
       passed = λ own v e n. absurd (never e n);
     }
 
@@ -89,7 +91,8 @@ module _ (P : Problem) (W f : ℕ) where
           live = λ e. absurd (true≢false e);
           steady = λ e. absurd (true≢false e);
           passed = λ e. absurd (true≢false e);
-          none = λ _ k o w. wiped-same P k S S0 (p .steady k o w) (removed-none P W S f v d true changed R r refl k o w);
+          none = λ _ hood selected w i. wiped-same P hood selected S S0 (p .steady hood selected w i)
+              (removed-none P W S f v d true changed R r refl hood selected w i);
         }
 
         -- it failed, and its removal leaves R
@@ -103,7 +106,8 @@ module _ (P : Problem) (W f : ℕ) where
               marks = or-within touched changed (allFields P) (p .marks) (r .marks refl);
               live = removed-live P W S f v d false changed R r refl (p .live);
               lefts = λ u e. and-r (bit (clear left v) u) _ (sym (bit-and (clear left v) (getD R f 0) u) ∙ e);
-              steady = λ k o w. removed-steady P W S f v d false changed R r refl k o w ∙ p .steady k o w;
+              steady = λ hood selected w i. removed-steady P W S f v d false changed R r refl hood selected w i
+                  ∙ p .steady hood selected w i;
               passed = λ own u h n. passes-same P W S R f u h
                   (λ g i e. s .same g (not-so (bit changed g) (λ y. e (own g (or-in g y) i))))
                   (p .passed (λ g y. own g (or-old g y)) u (s .inside f u h) (was-off u h n));

@@ -2,10 +2,11 @@
 //!
 //! A [`Sheet`] has fields, their settings and rules that allow pairs of settings. A [`Session`] holds the decisions in force. Each call
 //! gives the [`Offers`]: the largest set of settings under these decisions that is singleton arc consistent, over the whole sheet or over
-//! neighbourhoods of its reach. A call that is refused says why ([`Refusal`]) and changes nothing.
+//! neighbourhoods of its reach. Where not every field is selected at open, it is the largest set that is arc consistent, and singleton arc
+//! consistent in the fields of the [`Selection`]. A call that is refused says why ([`Refusal`]) and changes nothing.
 //!
 //! ```
-//! use belaykeel::{Engine, Order, Refusal, Session, Sheet, WorkSpaces};
+//! use belaykeel::{Engine, Order, Refusal, Selection, Session, Sheet, WorkSpaces};
 //! # fn main() -> Result<(), Refusal> {
 //! // Two fields of 100, 200 and 300 micrometres; the first is at least 100 above the second.
 //! let bytes = [
@@ -15,7 +16,7 @@
 //! let (engine, order, mut spaces) = (Engine::Sac1, Order::Rising, WorkSpaces::new());
 //! let mut session = Session::default();
 //!
-//! let offers = session.open(&sheet, engine, &order, &mut spaces)?;
+//! let offers = session.open(&sheet, engine, &order, &Selection::All, &mut spaces)?;
 //! assert_eq!(offers.masks(), [6, 3]);
 //! assert!(offers.positions(0).eq([1, 2]));
 //!
@@ -25,6 +26,24 @@
 //! let refused = session.choose(&sheet, engine, &order, 1, 1, &mut spaces);
 //! assert_eq!(refused, Err(Refusal::WipedOut));
 //! assert_eq!(session.show(&sheet, engine, &order, &mut spaces)?.masks(), [2, 1]);
+//! # Ok(())
+//! # }
+//! ```
+//!
+//! Of three fields that differ pairwise, one has a third setting, and must take it. Closing does not see this; the tests of that field do:
+//!
+//! ```
+//! use belaykeel::{Engine, Order, Refusal, Selection, Session, Sheet, WorkSpaces};
+//! # fn main() -> Result<(), Refusal> {
+//! let sheet = Sheet::write(&[3, 2, 1, 2, 2, 1, 2, 3, 1, 2, 3, 24, 3, 0, 1, 3, 1, 0, 2, 3, 1, 1, 2, 3, 1])?;
+//! let (mut session, mut spaces) = (Session::default(), WorkSpaces::new());
+//! let mut open = |selection: Selection| session.open(&sheet, Engine::Sac1, &Order::Rising, &selection, &mut spaces);
+//!
+//! assert_eq!(open(Selection::Fields(vec![0, 1]))?.masks(), [3, 3, 7]);
+//! assert_eq!(open(Selection::Fields(vec![2]))?.masks(), [3, 3, 4]);
+//! assert_eq!(open(Selection::All)?.masks(), [3, 3, 4]);
+//! assert_eq!(open(Selection::Fields(vec![2, 3])), Err(Refusal::NoSelection));
+//! assert_eq!(session.selected, 0b111);
 //! # Ok(())
 //! # }
 //! ```
@@ -42,7 +61,7 @@ mod refusal;
 mod session;
 mod sheet;
 
-pub use method::{Engine, Order, WorkSpaces};
+pub use method::{Engine, Order, Selection, WorkSpaces};
 pub use offers::Offers;
 pub use refusal::Refusal;
 pub use session::{Event, Session, EVENTS};

@@ -1,4 +1,4 @@
-//! How a call finds the offers: engine, order and work spaces. None of them alters the offers.
+//! How a call finds the offers: engine, order and work spaces, none of which alters the offers, and the selection, which does.
 
 use crate::raw::{MEMORY_WORDS, OFFERS_WORDS, ROWS_WORDS};
 use crate::sheet::Sheet;
@@ -26,7 +26,7 @@ impl Engine {
     }
 }
 
-/// The order in which an engine visits the fields.
+/// The order in which an engine visits the selected fields. It holds the others too.
 #[derive(Clone, Debug, Default, PartialEq, Eq)]
 pub enum Order {
     /// From field 0 up.
@@ -52,6 +52,33 @@ impl Order {
         match self {
             Order::Rising => &RISING[..sheet.fields()],
             Order::Listed(fields) => fields,
+        }
+    }
+}
+
+/// The fields that are selected at open: those whose settings are tested one by one. The session keeps them. With fewer of them the offers
+/// are the same or more: all that is offered with more of them, and nothing that closing the sheet excludes.
+///
+/// A list that is empty or has a field beyond the sheet is refused ([`Refusal::NoSelection`](crate::Refusal::NoSelection)). It may name a
+/// field twice.
+#[derive(Clone, Debug, Default, PartialEq, Eq)]
+pub enum Selection {
+    /// Every field of the sheet.
+    #[default]
+    All,
+    /// These fields.
+    Fields(Vec<u32>),
+}
+
+/// A bit of the mask that stands for no field of any sheet.
+const BEYOND: u32 = u32::BITS - 1;
+
+impl Selection {
+    /// The mask for a sheet: bit f means that field f is selected. A field past the bits is given a bit that is beyond every sheet too.
+    pub(crate) fn mask(&self, sheet: &Sheet) -> u32 {
+        match self {
+            Selection::All => (1 << sheet.fields()) - 1,
+            Selection::Fields(fields) => fields.iter().fold(0, |mask, &field| mask | 1 << field.min(BEYOND)),
         }
     }
 }

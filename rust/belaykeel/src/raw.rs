@@ -46,7 +46,7 @@ pub struct Answer {
     pub length: usize,
 }
 
-/// Declares a call and its safe wrapper, with a field and a position where the call takes them.
+/// Declares a call and its safe wrapper, with a mask of selected fields or a field and a position where the call takes them.
 macro_rules! call {
     ($about:literal, $name:ident = $symbol:ident($($extra:ident),*)) => {
         #[doc = $about]
@@ -91,7 +91,7 @@ macro_rules! call {
     };
 }
 
-call!("Starts with no decisions and no events.", open = belaykeel_open());
+call!("Starts with no decisions, no events and this mask of selected fields, which the session keeps.", open = belaykeel_open(selected));
 call!("Changes nothing and gives the offers.", show = belaykeel_show());
 call!("Drops the latest event and reverses it.", back = belaykeel_back());
 call!("Drops all events; decisions remain.", coil_on = belaykeel_coil_on());

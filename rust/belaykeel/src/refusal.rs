@@ -15,7 +15,7 @@ macro_rules! refusals {
 
         impl Refusal {
             /// Every refusal, by rising number.
-            pub const ALL: [Refusal; 16] = [$(Refusal::$name,)*];
+            pub const ALL: [Refusal; 17] = [$(Refusal::$name,)*];
 
             fn sentence(self) -> &'static str {
                 match self {
@@ -42,11 +42,12 @@ refusals! {
     13 NothingPast "Back, and there is no event."
     14 WipedOut "Under the decisions that would hold after the call a field has no offer."
     15 Malformed "The session is malformed."
+    18 NoSelection "The mask of selected fields is empty or names a field beyond the sheet."
     20 Retired "The writer met a rule of kind 2, which is read but no longer written."
 }
 
 impl Refusal {
-    /// The number of the refusal, 1 to 15 or 20.
+    /// The number of the refusal, 1 to 15, 18 or 20.
     pub fn number(self) -> u32 {
         self as u32
     }

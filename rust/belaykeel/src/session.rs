@@ -1,6 +1,6 @@
 //! The session and its calls.
 
-use crate::method::{Engine, Order, WorkSpaces};
+use crate::method::{Engine, Order, Selection, WorkSpaces};
 use crate::offers::Offers;
 use crate::raw::{self, Arguments, OFFERS_WORDS};
 use crate::refusal::Refusal;
@@ -22,20 +22,20 @@ pub struct Event {
     pub position: u32,
 }
 
-/// The control room's session: the decisions in force, up to 64 events and their count, and no offers.
+/// The control room's session: the decisions in force, up to 64 events and their count, the mask of selected fields, and no offers.
 ///
 /// Its words may hold anything. [`Session::open`] starts afresh from whatever is there; every other call refuses a session that is
-/// malformed for the sheet. A refused call leaves the session as it was.
+/// malformed for the sheet, as one of 0s is: it selects no field. A refused call leaves the session as it was.
 ///
 /// A strike and a choice, and the strike withdrawn first. What the strike alone drove out returns; what the choice forbids does not:
 ///
 /// ```
-/// use belaykeel::{Engine, Order, Session, Sheet, WorkSpaces};
+/// use belaykeel::{Engine, Order, Selection, Session, Sheet, WorkSpaces};
 /// # fn main() -> Result<(), belaykeel::Refusal> {
 /// let sheet = Sheet::write(&[2, 3, 100, 200, 300, 3, 100, 200, 300, 24, 1, 0, 1, 1, 100])?;
 /// let (engine, order, mut spaces) = (Engine::Queue, Order::Rising, WorkSpaces::new());
 /// let mut session = Session::default();
-/// session.open(&sheet, engine, &order, &mut spaces)?;
+/// session.open(&sheet, engine, &order, &Selection::All, &mut spaces)?;
 /// session.strike(&sheet, engine, &order, 0, 2, &mut spaces)?;
 /// session.choose(&sheet, engine, &order, 1, 0, &mut spaces)?;
 /// let offers = session.withdraw_strike(&sheet, engine, &order, 0, 2, &mut spaces)?;
@@ -54,6 +54,8 @@ pub struct Session {
     pub events: [Event; EVENTS],
     /// How many events have happened.
     pub count: u32,
+    /// The mask of selected fields: bit f means that field f is selected. Only an accepted open sets it.
+    pub selected: u32,
 }
 
 // The library's layout of a session, in bytes: it reads and writes the parts at these offsets. examples/c/layout.c holds C callers to the
@@ -63,7 +65,8 @@ const _: () = {
     assert!(offset_of!(Session, strikes) == 96);
     assert!(offset_of!(Session, events) == 192);
     assert!(offset_of!(Session, count) == 960);
-    assert!(size_of::<Session>() == 964);
+    assert!(offset_of!(Session, selected) == 964);
+    assert!(size_of::<Session>() == 968);
     assert!(offset_of!(Event, kind) == 0);
     assert!(offset_of!(Event, field) == 4);
     assert!(offset_of!(Event, position) == 8);
@@ -73,7 +76,7 @@ const _: () = {
 impl Default for Session {
     /// All words 0.
     fn default() -> Session {
-        Session { choices: [0; OFFERS_WORDS], strikes: [0; OFFERS_WORDS], events: [Event::default(); EVENTS], count: 0 }
+        Session { choices: [0; OFFERS_WORDS], strikes: [0; OFFERS_WORDS], events: [Event::default(); EVENTS], count: 0, selected: 0 }
     }
 }
 
@@ -89,26 +92,46 @@ macro_rules! method {
             $($extra: u32,)*
             spaces: &mut WorkSpaces,
         ) -> Result<Offers, Refusal> {
-            let mut words = [0; OFFERS_WORDS];
-            let given = Arguments {
-                sheet: sheet.as_bytes(),
-                engine: engine.number(),
-                order: order.bytes(sheet),
-                offers: &mut words,
-                rows: &mut spaces.rows,
-                memory: &mut spaces.memory,
-            };
-            Refusal::check(raw::$name(self, given $(, $extra)*))?;
-            Ok(Offers::new(words, sheet.fields()))
+            self.call(sheet, engine, order, spaces, |session, given| raw::$name(session, given $(, $extra)*))
         }
     };
 }
 
 impl Session {
-    method! {
-        /// Starts with no decisions and no events, whatever the session held.
-        open()
+    /// Makes a call with what it is given.
+    fn call(
+        &mut self,
+        sheet: &Sheet,
+        engine: Engine,
+        order: &Order,
+        spaces: &mut WorkSpaces,
+        call: impl FnOnce(&mut Session, Arguments) -> u32,
+    ) -> Result<Offers, Refusal> {
+        let mut words = [0; OFFERS_WORDS];
+        let given = Arguments {
+            sheet: sheet.as_bytes(),
+            engine: engine.number(),
+            order: order.bytes(sheet),
+            offers: &mut words,
+            rows: &mut spaces.rows,
+            memory: &mut spaces.memory,
+        };
+        Refusal::check(call(self, given))?;
+        Ok(Offers::new(words, sheet.fields()))
     }
+
+    /// Starts with no decisions, no events and this selection, whatever the session held. Later calls use the selection too.
+    pub fn open(
+        &mut self,
+        sheet: &Sheet,
+        engine: Engine,
+        order: &Order,
+        selection: &Selection,
+        spaces: &mut WorkSpaces,
+    ) -> Result<Offers, Refusal> {
+        self.call(sheet, engine, order, spaces, |session, given| raw::open(session, given, selection.mask(sheet)))
+    }
+
     method! {
         /// Changes nothing and gives the offers.
         show()
@@ -141,5 +164,11 @@ impl Session {
     /// The events that have happened, oldest first; at most 64.
     pub fn past_events(&self) -> &[Event] {
         &self.events[..EVENTS.min(self.count as usize)]
+    }
+
+    /// The selected fields, rising.
+    pub fn selected_fields(&self) -> impl Iterator<Item = u32> {
+        let selected = self.selected;
+        (0..u32::BITS).filter(move |field| selected >> field & 1 == 1)
     }
 }

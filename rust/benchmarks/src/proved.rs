@@ -14,6 +14,7 @@ extern "C" {
         engine: u32,
         order: *const u8,
         order_len: usize,
+        selected: u32,
         length: usize,
         rows: *mut u32,
         rows_len: usize,
@@ -41,13 +42,15 @@ impl Proved {
         self.memory[..job.numbers.len()].copy_from_slice(&job.numbers);
         let (rows, memory, order) = (&mut self.rows, &mut self.memory, &job.order);
         let mut domains = job.start;
-        // The list is accepted and stands at the front of the memory, the set is within it, the order has each field once.
+        // The list is accepted and stands at the front of the memory, the set is within it, the order has each field once, and the mask
+        // selects some of them and no other.
         let (wiped, time) = timed(|| unsafe {
             engines_offers(
                 domains.as_mut_ptr(),
                 engine.number(),
                 order.as_ptr(),
                 order.len(),
+                job.selected,
                 job.numbers.len(),
                 rows.as_mut_ptr(),
                 rows.len(),
@@ -66,4 +69,5 @@ fn check(job: &Job) {
     sorted.sort_unstable();
     assert!(sorted.into_iter().map(usize::from).eq(0..outline.fields), "not an order: {job:?}");
     assert!((0..MOST).all(|f| job.start[f] & !outline.full[f] == 0), "not a set: {job:?}");
+    assert!(job.selected != 0 && job.selected >> outline.fields == 0, "not a selection: {job:?}");
 }

@@ -7,6 +7,7 @@ pub use mill::{Mill, MILLS};
 use crate::WHOLE_REACH;
 use random::Random;
 use solver::{Rule, Sheet};
+use std::cmp::Reverse;
 use tests::shapes::every;
 
 /// A class of random sheets whose rules are all of kind 0.
@@ -64,6 +65,14 @@ impl Class {
 /// The mask of the places that are not forbidden.
 fn allowed(forbidden: &[bool]) -> u32 {
     forbidden.iter().enumerate().map(|(place, &forbidden)| u32::from(!forbidden) << place).sum()
+}
+
+/// The mask of so many fields of a sheet: those with the most rules, of equals the first.
+pub fn busiest(sheet: &Sheet, count: usize) -> u32 {
+    let rules = |f: usize| sheet.rules.iter().filter(|rule| rule.i == f || rule.j == f).count();
+    let mut fields: Vec<usize> = (0..sheet.fields()).collect();
+    fields.sort_by_key(|&f| Reverse(rules(f)));
+    fields[..count].iter().map(|f| 1 << f).sum()
 }
 
 /// Where measured sheets come from.

@@ -10,20 +10,21 @@ use solver::{Call, Sheet};
 use tests::linked::{Library, Linked};
 use tests::sheets::{bytes, numbers};
 
-/// A sheet's list of numbers to solve, with its start set and the order of its fields.
+/// A sheet's list of numbers to solve, with its start set, the order of its fields and the mask of those that are selected.
 #[derive(Clone, Debug)]
 pub struct Job {
     pub numbers: Vec<u32>,
     pub start: Domains,
     pub order: Vec<u8>,
+    pub selected: u32,
 }
 
 impl Job {
-    /// Starts with every setting, and visits the fields in rising order.
+    /// Starts with every setting, and visits every field, in rising order.
     pub fn new(sheet: &Sheet) -> Job {
         let numbers = numbers(sheet);
         let start = outline(&numbers).expect("a sheet").full;
-        Job { numbers, start, order: rising(sheet) }
+        Job { numbers, start, order: rising(sheet), selected: sheet.all_fields() }
     }
 }
 
@@ -56,9 +57,10 @@ impl Default for Lent {
 }
 
 impl Task {
-    /// An open of a sheet.
+    /// An open of a sheet with every field selected.
     pub fn open(sheet: &Sheet) -> Task {
-        Task { sheet: bytes(sheet), session: Session::default(), call: Call::Open, order: rising(sheet), number: 0 }
+        let call = Call::Open(sheet.all_fields());
+        Task { sheet: bytes(sheet), session: Session::default(), call, order: rising(sheet), number: 0 }
     }
 
     /// What the call is given.
@@ -81,7 +83,7 @@ impl Task {
 
     /// A show that is refused as soon as the tables are built: two choices in a field leave nothing of it.
     pub fn with_two_choices(&self) -> Task {
-        let mut session = Session::default();
+        let mut session = Session { selected: (1 << self.order.len()) - 1, ..Session::default() };
         session.choices[0] = 3;
         Task { session, call: Call::Show, number: 14, ..self.clone() }
     }
@@ -128,7 +130,7 @@ fn tasks(sheet: &Sheet, seed: u64) -> Option<Vec<Task>> {
     let mut random = Random(seed);
     let open = Task::open(sheet);
     let mut room = Room { lent: Lent::default(), task: open.clone() };
-    let opened = room.call(Call::Open);
+    let opened = room.call(open.call);
     let first = opened.then(|| room.decide(&mut random, Call::Strike))??;
     let second = room.decide(&mut random, Call::Strike)?;
     let before = room.task.session.clone();
@@ -137,10 +139,10 @@ fn tasks(sheet: &Sheet, seed: u64) -> Option<Vec<Task>> {
     let (Call::Strike(f, v), Call::Choose(g, u)) = (first, choice) else {
         return None;
     };
-    let reordered = [Call::Open, choice, first, second].into_iter().all(|call| room.call(call));
+    let reordered = [open.call, choice, first, second].into_iter().all(|call| room.call(call));
     assert!(reordered, "decisions that are accepted in one order are accepted in another");
     let calls = [(&after, Call::Show), (&before, choice), (&after, Call::WithdrawStrike(f, v))];
-    let mut tasks = vec![open.with(&after, Call::Open)];
+    let mut tasks = vec![open.with(&after, open.call)];
     tasks.extend(calls.map(|(session, call)| open.with(session, call)));
     tasks.push(open.with(&room.task.session, Call::WithdrawChoice(g, u)));
     Some(tasks)

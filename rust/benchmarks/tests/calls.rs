@@ -51,7 +51,7 @@ fn sequence(plain: &mut dyn Library, seed: u64, tally: &mut Tally) {
             Step::Call(call) => {
                 let proved = left(&mut Linked, &held, &call, &given);
                 assert_eq!(left(plain, &held, &call, &given), proved, "seed {seed}: {call:?} on {held:?} of {given:?}");
-                tally.add(&call, &given, proved.0);
+                tally.add(&call, &given, held.selected, proved.0);
                 held = proved.1;
             }
         }
@@ -68,7 +68,7 @@ fn random_calls() {
         sequence(&mut plains[which], seeds.word(), &mut tally);
     }
     println!("{tally}");
-    assert!((0..=15).all(|number| (tally.number(number) > 0) == (number != 8)), "{tally}");
+    assert!((0..=18).all(|number| (tally.number(number) > 0) != [8, 16, 17].contains(&number)), "{tally}");
 }
 
 #[test]

@@ -1,5 +1,5 @@
 //! The proved engines, the plain ones and the solver agree: on small random sheets with rules of every kind, of all reaches, with random
-//! orders and start sets, and on larger ones without the solver.
+//! orders, selections and start sets, and on larger ones without the solver.
 
 use benchmarks::contestants::engines;
 use benchmarks::measure::agree;
@@ -11,6 +11,7 @@ use random::Random;
 use solver::network::includes;
 use solver::{Network, Rule, Set, Sheet};
 use tests::sac2::sac2;
+use tests::selections::good;
 use tests::shapes::Size;
 use tests::sheets::unequal;
 use tests::taste;
@@ -23,7 +24,7 @@ fn start(random: &mut Random, full: Domains) -> Domains {
 
 fn random_job(random: &mut Random, sheet: &Sheet) -> Job {
     let job = Job::new(sheet);
-    Job { start: start(random, job.start), order: random.order(sheet.fields()), ..job }
+    Job { start: start(random, job.start), order: random.order(sheet.fields()), selected: good(random, sheet.fields()), ..job }
 }
 
 /// What all engines answer, and the tests of SAC-1 and SAC-2. Those of SAC-1 do not depend on the way of closing. SAC-2 makes no more than
@@ -49,12 +50,12 @@ fn masked_sheet(random: &mut Random) -> Sheet {
 #[test]
 fn agree_with_the_solver() {
     let mut random = Random(1);
-    let (mut wiped, mut narrowed, mut untouched) = (0, 0, 0);
+    let (mut wiped, mut narrowed, mut untouched, mut between) = (0, 0, 0, 0);
     for round in 0..6000 {
         let sheet = if round % 2 == 0 { taste::sheet(&mut random, Size::Small) } else { masked_sheet(&mut random) };
         let job = random_job(&mut random, &sheet);
         let network = Network::of(&sheet);
-        let expected = network.offers(job.start);
+        let expected = network.offers(job.start, job.selected);
         let (offers, _) = solve(&sheet, &job);
         assert_eq!(offers, (!network.wiped_out(&expected)).then_some(expected), "{job:?}");
         match offers {
@@ -62,9 +63,12 @@ fn agree_with_the_solver() {
             Some(set) if set == job.start => untouched += 1,
             Some(_) => narrowed += 1,
         }
+        let every: Vec<usize> = (0..sheet.fields()).collect();
+        let (closed, least) = (network.closing(job.start, &every), network.offers(job.start, sheet.all_fields()));
+        between += usize::from(expected != closed && expected != least);
     }
-    println!("{wiped} wiped out, {narrowed} narrowed, {untouched} untouched");
-    assert!(wiped.min(narrowed).min(untouched) > 600, "{wiped} {narrowed} {untouched}");
+    println!("{wiped} wiped out, {narrowed} narrowed, {untouched} untouched, {between} between closing and all fields selected");
+    assert!(wiped.min(narrowed).min(untouched) > 600 && between > 150, "{wiped} {narrowed} {untouched} {between}");
 }
 
 /// SAC-1 tests a setting in every pass. SAC-2 tests it again just where some of what its last test left in the neighbourhood has gone.
@@ -72,13 +76,14 @@ fn agree_with_the_solver() {
 fn tests_are_counted_as_defined() {
     let mut random = Random(3);
     let (mut at_short_reach, mut at_reach_24) = (0, 0);
-    for _ in 0..2000 {
+    for _ in 0..4000 {
         let sheet = masked_sheet(&mut random);
         let job = random_job(&mut random, &sheet);
         let network = Network::of(&sheet);
         let every: Vec<usize> = (0..sheet.fields()).collect();
         let closed = network.closing(job.start, &every);
-        let counted = |trusted: fn(&Set, &Set) -> bool| sac2(&network, closed, &job.order, trusted).1;
+        let visited: Vec<u8> = job.order.iter().copied().filter(|f| job.selected >> f & 1 == 1).collect();
+        let counted = |trusted: fn(&Set, &Set) -> bool| sac2(&network, closed, &visited, trusted).1;
         let (_, tests) = solve(&sheet, &job);
         assert_eq!(tests, [counted(|_, _| false), counted(includes)], "{job:?}");
         let saves = if sheet.reach < WHOLE_REACH { &mut at_short_reach } else { &mut at_reach_24 };

@@ -25,10 +25,10 @@ pub enum Event {
     Withdrawn(Decision),
 }
 
-/// The calls with a field and a position where they have them.
+/// The calls: open with a mask of selected fields, others with a field and a position where they have them.
 #[derive(Clone, Copy, Debug, PartialEq, Eq)]
 pub enum Call {
-    Open,
+    Open(u32),
     Show,
     Choose(u32, u32),
     Strike(u32, u32),
@@ -49,9 +49,10 @@ pub struct Arguments<'a> {
     pub memory: usize,
 }
 
-/// The decisions in force and the past events, oldest first.
+/// The mask of selected fields, the decisions in force and the past events, oldest first.
 #[derive(Clone, Debug, Default, PartialEq, Eq)]
 pub struct Ledger {
+    pub selected: u32,
     pub decisions: BTreeSet<Decision>,
     pub events: Vec<Event>,
 }
@@ -65,7 +66,7 @@ impl Call {
             Call::Strike(f, v) => Some(Event::Added(decision(Sort::Strike, f, v))),
             Call::WithdrawChoice(f, v) => Some(Event::Withdrawn(decision(Sort::Choice, f, v))),
             Call::WithdrawStrike(f, v) => Some(Event::Withdrawn(decision(Sort::Strike, f, v))),
-            Call::Open | Call::Show | Call::Back | Call::CoilOn => None,
+            Call::Open(_) | Call::Show | Call::Back | Call::CoilOn => None,
         }
     }
 }
@@ -109,7 +110,7 @@ impl Ledger {
     fn step(&self, call: Call) -> Result<Ledger, u32> {
         let mut next = self.clone();
         match call {
-            Call::Open => next = Ledger::default(),
+            Call::Open(selected) => next = Ledger { selected, ..Ledger::default() },
             Call::Show => (),
             Call::CoilOn => next.events.clear(),
             Call::Back => {
@@ -146,6 +147,7 @@ impl Ledger {
         let on_sheet = |decision: &Decision| sheet.has(decision.field, decision.position);
         let mut past = self.clone();
         self.events.len() > 64
+            || !sheet.selects(self.selected)
             || !self.decisions.iter().all(on_sheet)
             || !self.events.iter().all(|event| on_sheet(&event.decision()))
             || !self.events.iter().rev().all(|&event| past.reverse(event))
@@ -153,14 +155,15 @@ impl Ledger {
 }
 
 /// The ledger after a call and its offers, or the number of the refusal. Without a ledger the session is malformed. Engine 2 runs at every
-/// reach and 8 is never given: request 2 of 02.
+/// reach and 8 is never given: request 2 of 02. Open has 18 where other calls have 15: request 7.
 pub fn judge(held: Option<&Ledger>, call: Call, given: &Arguments) -> Result<(Ledger, Vec<u32>), u32> {
     if given.offers < 24 || given.rows < 13_248 || given.memory < 13_824 {
         return Err(6);
     }
     let sheet = reading::sheet(given.sheet)?;
     let ledger = match (call, held) {
-        (Call::Open, _) => Ledger::default(),
+        (Call::Open(selected), _) if !sheet.selects(selected) => return Err(18),
+        (Call::Open(_), _) => Ledger::default(),
         (_, Some(ledger)) if !ledger.malformed(&sheet) => ledger.clone(),
         _ => return Err(15),
     };
@@ -173,7 +176,7 @@ pub fn judge(held: Option<&Ledger>, call: Call, given: &Arguments) -> Result<(Le
     }
     let next = ledger.step(call)?;
     let network = Network::of(&sheet);
-    let offers = network.offers(next.start_set(&network.full));
+    let offers = network.offers(next.start_set(&network.full), next.selected);
     if network.wiped_out(&offers) {
         return Err(14);
     }

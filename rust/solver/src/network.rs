@@ -112,13 +112,15 @@ impl Network {
         self.left(set, f, v).is_some()
     }
 
-    /// The largest subset in which every setting passes its test.
-    pub fn offers(&self, set: Set) -> Set {
+    /// The largest subset that is closed, over every field and rule, and in which every setting of a selected field passes its test:
+    /// request 7 of 02. Bit f of the mask means that field f is selected.
+    pub fn offers(&self, set: Set, selected: u32) -> Set {
         let every: Vec<usize> = (0..self.fields()).collect();
-        self.largest(set, &every, |set, f, v| self.passes(set, f, v))
+        let tested = |f: usize| selected >> f & 1 == 1;
+        self.largest(set, &every, |set, f, v| self.supported(set, &every, f, v) && (!tested(f) || self.passes(set, f, v)))
     }
 
-    /// Whether some field is empty.
+    /// Whether some field is empty, selected or not.
     pub fn wiped_out(&self, set: &Set) -> bool {
         (0..self.fields()).any(|f| set[f] == 0)
     }

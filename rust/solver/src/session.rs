@@ -1,19 +1,26 @@
 //! A session's words, and the judge of calls that are given any words at all.
 //!
-//! 24 masks of choices, 24 of strikes, 64 events of a kind, a field and a position, and the count of the events that have happened.
+//! 24 masks of choices, 24 of strikes, 64 events of a kind, a field and a position, the count of the events that have happened, and the
+//! mask of selected fields.
 
 use crate::ledger::{judge, Arguments, Call, Decision, Event, Ledger, Sort};
 use crate::MOST;
 
-pub type Words = [u32; 241];
+/// How many words a session has.
+pub const WORDS: usize = 242;
+
+pub type Words = [u32; WORDS];
 
 const STRIKES: usize = 24;
 const EVENTS: usize = 48;
-const COUNT: usize = 240;
+/// The place of the count.
+pub const COUNT: usize = 240;
+/// The place of the mask of selected fields.
+pub const SELECTED: usize = 241;
 
 /// The ledger that the words hold; none where they hold more than 64 events or one of no kind.
 pub fn ledger(words: &Words) -> Option<Ledger> {
-    let mut ledger = Ledger::default();
+    let mut ledger = Ledger { selected: words[SELECTED], ..Ledger::default() };
     for field in 0..MOST as u32 {
         for position in 0..32 {
             for (sort, start) in [(Sort::Choice, 0), (Sort::Strike, STRIKES)] {
@@ -65,6 +72,7 @@ pub fn words_after(before: &Words, ledger: &Ledger) -> Words {
         words[EVENTS + 3 * place..][..3].copy_from_slice(&[kind(event), decision.field, decision.position]);
     }
     words[COUNT] = ledger.events.len() as u32;
+    words[SELECTED] = ledger.selected;
     words
 }
 

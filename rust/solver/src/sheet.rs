@@ -25,6 +25,16 @@ impl Sheet {
         self.settings.len()
     }
 
+    /// The mask that selects every field.
+    pub fn all_fields(&self) -> u32 {
+        (1 << self.fields()) - 1
+    }
+
+    /// Whether a mask selects some field, and only fields of the sheet.
+    pub fn selects(&self, selected: u32) -> bool {
+        selected != 0 && selected & !self.all_fields() == 0
+    }
+
     /// Whether the sheet has this field and this position in it.
     pub fn has(&self, field: u32, position: u32) -> bool {
         self.settings.get(field as usize).is_some_and(|settings| (position as usize) < settings.len())

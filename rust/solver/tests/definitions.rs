@@ -1,36 +1,11 @@
 //! The solver's largest sets against the definitions taken word by word: every subset of a small set is looked at.
 
+mod small;
+
 use random::Random;
+use small::{settings_of, small_sheet};
 use solver::network::includes;
-use solver::{Network, Rule, Set, Sheet, MOST};
-
-/// At most five fields and nine settings in all.
-fn small_sheet(random: &mut Random) -> Sheet {
-    let n = 2 + random.below(4);
-    let mut left = 9 - n;
-    let mut settings: Vec<Vec<u32>> = vec![];
-    for _ in 0..n {
-        let more = random.below(left.min(2) + 1);
-        left -= more;
-        settings.push((0..=more as u32).map(|k| 3 * k + random.below(3) as u32).collect());
-    }
-    let mut rules = vec![];
-    for (i, j) in (0..n).flat_map(|i| (i + 1..n).map(move |j| (i, j))) {
-        let kind = random.below(7) as u32;
-        let numbers = match kind {
-            6 => continue,
-            0 => settings[i].iter().map(|_| (random.below(1 << settings[j].len()) | random.below(1 << settings[j].len())) as u32).collect(),
-            3..=5 => vec![random.below(5) as u32],
-            _ => vec![random.below(2) as u32],
-        };
-        rules.push(Rule { i, j, kind, numbers });
-    }
-    Sheet { settings, reach: [1, 1, 2, 3, 24][random.below(5)], rules }
-}
-
-fn settings_of(set: &Set) -> Vec<(usize, usize)> {
-    (0..MOST).flat_map(|f| (0..MOST).filter(move |v| set[f] >> v & 1 == 1).map(move |v| (f, v))).collect()
-}
+use solver::{Network, Set, Sheet, MOST};
 
 /// Every subset of a set.
 fn subsets(set: &Set) -> impl Iterator<Item = Set> {
@@ -134,6 +109,7 @@ fn what_a_test_left_is_left_again() {
     assert!(kept > 1000 && lost > 1000, "{kept} {lost}");
 }
 
+/// With every field selected, the offers are the largest subset in which every setting passes its test.
 #[test]
 fn offers_are_the_largest_passing_subset() {
     let mut random = Random(3);
@@ -142,8 +118,26 @@ fn offers_are_the_largest_passing_subset() {
         let sheet = small_sheet(&mut random);
         let network = Network::of(&sheet);
         let all_pass = |subset: &Set| settings_of(subset).iter().all(|&(f, v)| network.passes(subset, f, v));
-        let offers = network.offers(network.full);
+        let offers = network.offers(network.full, sheet.all_fields());
         assert_eq!(offers, largest(&network.full, all_pass), "{sheet:?}");
+        kept += usize::from(!network.wiped_out(&offers));
+    }
+    assert!(kept > 300, "{kept}");
+}
+
+/// With any fields selected, the largest closed subset in which every setting of a selected field passes its test.
+#[test]
+fn offers_of_a_selection_are_the_largest_subset() {
+    let mut random = Random(5);
+    let mut kept = 0;
+    for _ in 0..2000 {
+        let sheet = small_sheet(&mut random);
+        let network = Network::of(&sheet);
+        let every: Vec<usize> = (0..sheet.fields()).collect();
+        let selected = random.from(1, sheet.all_fields() as usize) as u32;
+        let pass = |subset: &Set| settings_of(subset).iter().all(|&(f, v)| selected >> f & 1 == 0 || network.passes(subset, f, v));
+        let offers = network.offers(network.full, selected);
+        assert_eq!(offers, largest(&network.full, |subset| closed(&sheet, subset, &every) && pass(subset)), "{sheet:?} {selected:b}");
         kept += usize::from(!network.wiped_out(&offers));
     }
     assert!(kept > 300, "{kept}");

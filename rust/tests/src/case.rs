@@ -1,5 +1,6 @@
 //! A test case: a sheet, a session and a list of steps.
 
+use solver::session::WORDS;
 use solver::{Call, Words};
 
 /// What the work spaces hold before a call.
@@ -52,9 +53,9 @@ impl Given {
     }
 }
 
-/// A session of 0s.
+/// A session of 0s, which selects no field.
 pub fn empty_session() -> Box<Words> {
-    Box::new([0; 241])
+    Box::new([0; WORDS])
 }
 
 /// The field and position of a call, where it has them.
@@ -69,6 +70,6 @@ pub fn with_setting(call: Call, field: u32, position: u32) -> Call {
         Call::Strike(..) => Call::Strike(field, position),
         Call::WithdrawChoice(..) => Call::WithdrawChoice(field, position),
         Call::WithdrawStrike(..) => Call::WithdrawStrike(field, position),
-        Call::Open | Call::Show | Call::Back | Call::CoilOn => call,
+        Call::Open(_) | Call::Show | Call::Back | Call::CoilOn => call,
     }
 }

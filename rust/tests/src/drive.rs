@@ -12,6 +12,7 @@ use crate::tally::Tally;
 use crate::taste;
 use crate::text::print;
 use crate::Random;
+use solver::session::SELECTED;
 use solver::{Sheet, Words};
 
 /// What the sequences of a run are like.
@@ -53,6 +54,7 @@ pub fn sequence(maker: Maker, plan: Plan, seed: u64, tally: &mut Tally) -> Resul
     for place in 0..length(&mut random, plan) {
         let first = place == 0 && !plan.forging;
         let step = if first { opening(&mut random, &sheet) } else { next(&mut random, &habits, &sheet, &runner.words()) };
+        let held = runner.words()[SELECTED];
         let result = runner.step(&step);
         steps.push(step);
         match result {
@@ -60,7 +62,7 @@ pub fn sequence(maker: Maker, plan: Plan, seed: u64, tally: &mut Tally) -> Resul
             Ok(None) => (),
             Ok(Some(number)) => {
                 if let Some(Step::Call(call)) = steps.last() {
-                    tally.add(call, &given, number);
+                    tally.add(call, &given, held, number);
                 }
                 if place == 0 && number != 0 && !plan.damaged && random.below(8) > 0 {
                     break;
@@ -73,6 +75,7 @@ pub fn sequence(maker: Maker, plan: Plan, seed: u64, tally: &mut Tally) -> Resul
 
 fn start(random: &mut Random, plan: Plan, sheet: &Sheet) -> Box<Words> {
     match random.below(3) {
+        0 if plan.forging => forge::opened(random, sheet),
         0 => empty_session(),
         1 if !plan.forging => forge::noise(random),
         _ => forge::forged(random, sheet),

@@ -1,4 +1,4 @@
-//! Sheets built so that a removal matters many rules away.
+//! Sheets built so that a removal matters many rules away, or not at all in a part of the sheet.
 
 use crate::shapes::ring;
 use crate::Random;
@@ -22,6 +22,17 @@ pub fn far(random: &mut Random, sizes: &[usize]) -> Sheet {
     let reach = random.pick(&[radius, radius, radius + 1, radius - 1, 24]);
     let mut sheet = Sheet { settings, reach, rules };
     let names = random.order(m + 2);
+    rename(&mut sheet, &names);
+    sheet
+}
+
+/// Two sheets in one, with no rule between them, at the reach of the first. The fields have any names.
+pub fn apart(random: &mut Random, first: Sheet, second: Sheet) -> Sheet {
+    let mut sheet = first;
+    let n = sheet.fields();
+    sheet.settings.extend(second.settings);
+    sheet.rules.extend(second.rules.into_iter().map(|rule| Rule { i: rule.i + n, j: rule.j + n, ..rule }));
+    let names = random.order(sheet.fields());
     rename(&mut sheet, &names);
     sheet
 }

@@ -13,6 +13,7 @@ pub mod planted;
 pub mod repository;
 pub mod runner;
 pub mod sac2;
+pub mod selections;
 pub mod shapes;
 pub mod sheets;
 pub mod shrink;

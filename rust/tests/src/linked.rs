@@ -2,6 +2,7 @@
 
 use belaykeel::raw::{self, Arguments};
 use belaykeel::{Event, Session};
+use solver::session::{COUNT, SELECTED, WORDS};
 use solver::{Call, Words};
 
 /// What answers the calls.
@@ -15,7 +16,7 @@ pub struct Linked;
 impl Library for Linked {
     fn call(&mut self, session: &mut Session, call: Call, given: Arguments) -> u32 {
         match call {
-            Call::Open => raw::open(session, given),
+            Call::Open(selected) => raw::open(session, given, selected),
             Call::Show => raw::show(session, given),
             Call::Choose(field, position) => raw::choose(session, given, field, position),
             Call::Strike(field, position) => raw::strike(session, given, field, position),
@@ -29,13 +30,14 @@ impl Library for Linked {
 
 /// Every word of a session in its order.
 pub fn words(session: &Session) -> Words {
-    let mut words = [0; 241];
+    let mut words = [0; WORDS];
     words[..24].copy_from_slice(&session.choices);
     words[24..48].copy_from_slice(&session.strikes);
     for (place, event) in session.events.iter().enumerate() {
         words[48 + 3 * place..][..3].copy_from_slice(&[event.kind, event.field, event.position]);
     }
-    words[240] = session.count;
+    words[COUNT] = session.count;
+    words[SELECTED] = session.selected;
     words
 }
 
@@ -44,9 +46,10 @@ pub fn session(words: &Words) -> Session {
     let mut session = Session::default();
     session.choices.copy_from_slice(&words[..24]);
     session.strikes.copy_from_slice(&words[24..48]);
-    for (event, words) in session.events.iter_mut().zip(words[48..240].chunks(3)) {
+    for (event, words) in session.events.iter_mut().zip(words[48..COUNT].chunks(3)) {
         *event = Event { kind: words[0], field: words[1], position: words[2] };
     }
-    session.count = words[240];
+    session.count = words[COUNT];
+    session.selected = words[SELECTED];
     session
 }

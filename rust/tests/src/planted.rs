@@ -1,6 +1,10 @@
 //! Libraries with a planted fault, to see that the comparison finds it.
 
+mod fault;
 pub mod offers;
+mod selecting;
+
+pub use fault::Fault;
 
 use crate::linked::{Library, Linked};
 use crate::sheets::widest;
@@ -8,90 +12,6 @@ use belaykeel::raw::Arguments;
 use belaykeel::{Event, Session};
 use solver::{reading, Call};
 use std::collections::BTreeMap;
-
-#[derive(Clone, Copy, Debug, PartialEq, Eq)]
-pub enum Fault {
-    /// A withdrawal restores what its decision removed.
-    Restores,
-    /// Decisions are recorded only; the offers stay those of open.
-    RecordsOnly,
-    /// The offers are the closed start set.
-    OnlyCloses,
-    /// Each setting is tested once.
-    OnePass,
-    /// A removal puts back only the fields one rule away.
-    ShortQueue,
-    /// The neighbourhoods are one rule too short.
-    ShortReach,
-    /// q + c is compared modulo this number.
-    Wraps(u32),
-    /// Kind 5 allows distances that differ from c by at most this number.
-    Tolerance(u32),
-    /// Kind 5 allows no distance below c.
-    OnlyAbove,
-    /// Kind 5 allows every distance below c: c is subtracted from it, and the difference stops at 0.
-    StopsAtZero,
-    /// Settings and c are read up to 65,535 only.
-    LowerLimit,
-    /// 1,000,001 is read, as 1,000,000.
-    HigherLimit,
-    /// Offers are written by a call that 14 refuses.
-    OffersOnRefusal,
-    /// Words of the offers list past the fields are written.
-    LaterWords,
-    /// Open clears the event places.
-    OpenClears,
-    /// Back clears the place of the event that it drops.
-    BackClears,
-    /// A call that 14 refuses has left its event past the count.
-    EventOnRefusal,
-    /// 12 and 13 are swapped.
-    Swapped,
-    /// The order is not read.
-    OrderUnread,
-    /// Engine 2 trusts what it remembers although a setting of it has gone.
-    StaleMemory,
-    /// A work space is written before its length is judged.
-    SpaceTouched,
-    /// What a work space held alters the offers.
-    SpaceRead,
-    /// A count above 64 is taken as 64.
-    CountUnread,
-    /// Events are not reversed to judge the session.
-    NotReversed,
-}
-
-impl Fault {
-    pub const ALL: [Fault; 27] = [
-        Fault::Restores,
-        Fault::RecordsOnly,
-        Fault::OnlyCloses,
-        Fault::OnePass,
-        Fault::ShortQueue,
-        Fault::ShortReach,
-        Fault::Wraps(65_536),
-        Fault::Wraps(1_000_000),
-        Fault::Tolerance(0),
-        Fault::Tolerance(1),
-        Fault::Tolerance(3),
-        Fault::OnlyAbove,
-        Fault::StopsAtZero,
-        Fault::LowerLimit,
-        Fault::HigherLimit,
-        Fault::OffersOnRefusal,
-        Fault::LaterWords,
-        Fault::OpenClears,
-        Fault::BackClears,
-        Fault::EventOnRefusal,
-        Fault::Swapped,
-        Fault::OrderUnread,
-        Fault::StaleMemory,
-        Fault::SpaceTouched,
-        Fault::SpaceRead,
-        Fault::CountUnread,
-        Fault::NotReversed,
-    ];
-}
 
 /// The linked library with a fault.
 pub struct Planted {
@@ -155,6 +75,7 @@ impl Planted {
                 session.count = count;
                 number
             }
+            (_, 14 | 15 | 18) => self.misjudged_mask(number, session, call, given),
             _ => number,
         }
     }
@@ -162,17 +83,18 @@ impl Planted {
     /// Spoils a session after an accepted call.
     fn spoil_session(&self, session: &mut Session, call: Call) {
         match (self.fault, call) {
-            (Fault::OpenClears, Call::Open) => session.events.fill(Event::default()),
+            (Fault::OpenClears, Call::Open(_)) => session.events.fill(Event::default()),
             (Fault::BackClears, Call::Back) => session.events[session.count as usize] = Event::default(),
             _ => (),
         }
     }
 
-    /// Spoils what a call that 14 refuses should have left.
-    fn spoil_refused(&self, session: &mut Session, given: &mut Arguments) {
-        match self.fault {
-            Fault::OffersOnRefusal => given.offers[0] = 0,
-            Fault::EventOnRefusal if session.count < 64 => session.events[session.count as usize].kind = 2,
+    /// Spoils what a refused call should have left.
+    fn spoil_refused(&self, number: u32, session: &mut Session, call: Call, given: &mut Arguments) {
+        match (self.fault, call, number) {
+            (Fault::OffersOnRefusal, _, 14) => given.offers[0] = 0,
+            (Fault::EventOnRefusal, _, 14) if session.count < 64 => session.events[session.count as usize].kind = 2,
+            (Fault::RefusedOpenSetsMask, Call::Open(selected), 7 | 9 | 14) => session.selected = selected,
             _ => (),
         }
     }
@@ -181,6 +103,7 @@ impl Planted {
 impl Library for Planted {
     fn call(&mut self, session: &mut Session, call: Call, mut given: Arguments) -> u32 {
         let held = given.memory.first().copied();
+        let selected = session.selected;
         if self.fault == Fault::SpaceTouched && !given.rows.is_empty() {
             given.rows[0] ^= 1;
         }
@@ -191,13 +114,12 @@ impl Library for Planted {
         if number == 0 {
             self.spoil_offers(session, call, &mut given);
             self.spoil_session(session, call);
+            self.spoil_mask(selected, session, call, &given);
             if self.fault == Fault::SpaceRead && held == Some(u32::MAX) {
                 given.offers[0] ^= 1;
             }
         }
-        if number == 14 {
-            self.spoil_refused(session, &mut given);
-        }
+        self.spoil_refused(number, session, call, &mut given);
         number
     }
 }

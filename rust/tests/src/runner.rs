@@ -1,4 +1,5 @@
-//! Runs the steps of a case and compares after every call: the number, the whole session, the offers list and the lent spaces.
+//! Runs the steps of a case and compares after every call: the number, the whole session with its mask of selected fields, the offers list
+//! and the lent spaces.
 
 use crate::case::{Case, Fill, Given, Step};
 use crate::linked::{session, words, Library};
@@ -71,7 +72,7 @@ impl<'l> Runner<'l> {
                 let session = words_after(&at, &next);
                 let mut offers = before.to_vec();
                 offers[..masks.len()].copy_from_slice(&masks);
-                let live = self.ledger.is_some() || given.call == Call::Open;
+                let live = self.ledger.is_some() || matches!(given.call, Call::Open(_));
                 Expected { number: 0, session, offers, ledger: live.then_some(next) }
             }
         }

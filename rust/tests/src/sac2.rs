@@ -3,12 +3,12 @@
 use solver::{Network, Set, MOST};
 use std::collections::BTreeMap;
 
-/// The set that SAC-2 leaves of a closed one, and how many tests it makes. It passes over the fields in the given order until nothing
-/// changes, closes after each removal, and stops where a field is empty. A setting that passed is tested again unless `trusted` holds of
-/// the set and what its last test left.
-pub fn sac2(network: &Network, mut set: Set, order: &[u8], trusted: fn(&Set, &Set) -> bool) -> (Set, u64) {
+/// The set that SAC-2 leaves of a closed one, and how many tests it makes. It passes over the visited fields until nothing changes, closes
+/// after each removal, and stops where a field is empty. A setting that passed is tested again unless `trusted` holds of the set and what
+/// its last test left.
+pub fn sac2(network: &Network, mut set: Set, visited: &[u8], trusted: fn(&Set, &Set) -> bool) -> (Set, u64) {
     let every: Vec<usize> = (0..network.fields()).collect();
-    let settings: Vec<(usize, usize)> = order.iter().flat_map(|&f| (0..MOST).map(move |v| (f.into(), v))).collect();
+    let settings: Vec<(usize, usize)> = visited.iter().flat_map(|&f| (0..MOST).map(move |v| (f.into(), v))).collect();
     let mut remembered: BTreeMap<(usize, usize), Set> = BTreeMap::new();
     let (mut tests, mut changed) = (0, true);
     while changed {

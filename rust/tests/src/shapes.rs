@@ -1,6 +1,6 @@
 //! Random and structured sheets: rings, cliques, chains, stars, rules of every kind, narrow and wide fields.
 
-use crate::gadgets::far;
+use crate::gadgets::{apart, far};
 use crate::Random;
 use solver::{Rule, Sheet, ENCODER_TOLERANCE, LARGEST_SETTING};
 
@@ -36,6 +36,10 @@ struct Frame {
 pub fn sheet(random: &mut Random, size: Size) -> Sheet {
     match (size, random.below(8)) {
         (Size::Full, _) | (Size::Small | Size::Large, 0..=3) => return hard(random, size),
+        (Size::Small, 4) if random.one_in(2) => {
+            let [first, second] = [(); 2].map(|()| small_part(random));
+            return apart(random, first, second);
+        }
         (Size::Small, 4) => return far(random, &[5, 5, 7, 9, 11]),
         (Size::Long, 4) => return far(random, &[13, 15, 17, 19, 21]),
         _ => (),
@@ -48,6 +52,17 @@ pub fn sheet(random: &mut Random, size: Size) -> Sheet {
     };
     let reach = if size == Size::Long && random.one_in(2) { random.from(1, 24) as u32 } else { reach(random) };
     let frame = Frame { fields, settings, reach, pairs: pairs(random, fields) };
+    of_any_sort(random, frame)
+}
+
+/// A sheet of up to four fields, to be a part of one.
+fn small_part(random: &mut Random) -> Sheet {
+    let (fields, settings) = (random.from(1, 4), random.from(1, 4));
+    let frame = Frame { fields, settings, reach: reach(random), pairs: pairs(random, fields) };
+    of_any_sort(random, frame)
+}
+
+fn of_any_sort(random: &mut Random, frame: Frame) -> Sheet {
     match random.below(6) {
         0 => unequal(random, frame),
         1 => steps(random, frame),

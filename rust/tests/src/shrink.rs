@@ -2,6 +2,8 @@
 
 use crate::case::{empty_session, Case, Fill, Step, ENOUGH};
 use crate::smaller::{with_sheet, without_field, without_setting};
+use solver::session::SELECTED;
+use solver::{reading, Call};
 use std::time::{Duration, Instant};
 
 /// One attempt.
@@ -22,13 +24,31 @@ enum Change {
     Spaces(usize),
     Zeros(usize),
     ForgedWord(usize, usize),
+    AllFields(Holder),
+    Bit(Holder, u32),
+}
+
+/// What holds a mask of selected fields: the session at the start, or a step.
+type Holder = Option<usize>;
+
+fn mask(case: &mut Case, holder: Holder) -> Option<&mut u32> {
+    let Some(step) = holder else {
+        return Some(&mut case.session[SELECTED]);
+    };
+    match case.steps.get_mut(step)? {
+        Step::Forge(words) => Some(&mut words[SELECTED]),
+        Step::Call(given) => match &mut given.call {
+            Call::Open(selected) => Some(selected),
+            _ => None,
+        },
+    }
 }
 
 /// All attempts on a case, so ordered that those still to come stay valid.
 fn changes(case: &Case) -> Vec<Change> {
     let mut changes = vec![Change::Session];
-    changes.extend((0..241).filter(|&place| case.session[place] != 0).map(Change::Word));
-    if let Ok(sheet) = solver::reading::sheet(&case.sheet) {
+    changes.extend((0..case.session.len()).filter(|&place| case.session[place] != 0).map(Change::Word));
+    if let Ok(sheet) = reading::sheet(&case.sheet) {
         changes.extend((0..sheet.fields()).rev().map(Change::Field));
         changes.extend((0..sheet.rules.len()).rev().map(Change::Rule));
         changes.extend((0..24).rev().flat_map(|f| (0..24).rev().map(move |v| Change::Setting(f, v))));
@@ -41,8 +61,12 @@ fn changes(case: &Case) -> Vec<Change> {
         changes.extend([Change::OneSheet(step), Change::SameSheet(step), Change::Engine(step), Change::Order(step)]);
         changes.extend([Change::Spaces(step), Change::Zeros(step)]);
         if let Step::Forge(words) = &case.steps[step] {
-            changes.extend((0..241).filter(|&place| words[place] != 0).map(|place| Change::ForgedWord(step, place)));
+            changes.extend((0..words.len()).filter(|&place| words[place] != 0).map(|place| Change::ForgedWord(step, place)));
         }
+    }
+    for holder in [None].into_iter().chain((0..case.steps.len()).map(Some)) {
+        changes.push(Change::AllFields(holder));
+        changes.extend((0..u32::BITS).rev().map(|bit| Change::Bit(holder, bit)));
     }
     changes
 }
@@ -64,7 +88,11 @@ fn applied(case: &Case, change: Change) -> Option<Case> {
             (at < case.sheet.len()).then(|| shorter.sheet.remove(at))?;
             Some(shorter)
         }
-        Change::Session => Some(Case { session: empty_session(), ..case.clone() }),
+        Change::Session => {
+            let mut session = empty_session();
+            session[SELECTED] = case.session[SELECTED];
+            Some(Case { session, ..case.clone() })
+        }
         Change::Word(place) => {
             let mut plainer = case.clone();
             plainer.session[place] = 0;
@@ -77,7 +105,23 @@ fn applied(case: &Case, change: Change) -> Option<Case> {
         | Change::Spaces(step)
         | Change::Zeros(step)
         | Change::ForgedWord(step, _) => plainer(case, step, change),
+        Change::AllFields(holder) | Change::Bit(holder, _) => plainer_mask(case, holder, change),
     }
+}
+
+/// The case with a mask made plain. In a session the plainest is 0, then every field; in an open every field; else the fewer bits the
+/// plainer.
+fn plainer_mask(case: &Case, holder: Holder, change: Change) -> Option<Case> {
+    let mut plainer = case.clone();
+    let all = reading::sheet(&case.sheet).ok()?.all_fields();
+    let opens = holder.is_some_and(|step| matches!(case.steps.get(step), Some(Step::Call(_))));
+    let mask = mask(&mut plainer, holder)?;
+    match change {
+        Change::AllFields(_) if opens || *mask != 0 => *mask = all,
+        Change::Bit(_, bit) if *mask != all => *mask &= !(1 << bit),
+        _ => return None,
+    }
+    Some(plainer)
 }
 
 /// The case with one argument of a step made plain.

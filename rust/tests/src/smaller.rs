@@ -2,7 +2,8 @@
 
 use crate::case::{setting, with_setting, Case, Given, Step};
 use crate::sheets::bytes;
-use solver::{reading, Sheet, Words};
+use solver::session::{COUNT, SELECTED};
+use solver::{reading, Call, Sheet, Words};
 
 /// Takes place `at` out of a count: what stands above moves down, and `at` itself is gone.
 fn moved(place: u32, at: usize) -> Option<u32> {
@@ -19,44 +20,57 @@ fn without_bit(mask: u32, at: usize) -> u32 {
     low | (mask >> (at + 1)) << at
 }
 
-/// A change of settings: where a setting moves to, if it stays.
-type Move<'a> = &'a dyn Fn(u32, u32) -> Option<(u32, u32)>;
-
-fn moved_steps(case: &Case, sheet: &Sheet, to: Move, order: &dyn Fn(&[u8]) -> Vec<u8>, masks: &dyn Fn(&mut [u32])) -> Case {
-    let moved_words = |words: &Words| Box::new(words_moved(words, to, masks));
-    let step = |step: &Step| match step {
-        Step::Forge(words) => Some(Step::Forge(moved_words(words))),
-        Step::Call(given) => call_moved(given, to, order).map(Step::Call),
-    };
-    Case { sheet: bytes(sheet), session: moved_words(&case.session), steps: case.steps.iter().filter_map(step).collect() }
+/// What becomes of the places of a smaller sheet.
+struct Moves<'a> {
+    /// Where a setting moves to, if it stays.
+    setting: &'a dyn Fn(u32, u32) -> Option<(u32, u32)>,
+    order: &'a dyn Fn(&[u8]) -> Vec<u8>,
+    /// Moves the masks of choices, or of strikes.
+    masks: &'a dyn Fn(&mut [u32]),
+    /// The mask of selected fields.
+    selected: &'a dyn Fn(u32) -> u32,
 }
 
-fn call_moved(given: &Given, to: Move, order: &dyn Fn(&[u8]) -> Vec<u8>) -> Option<Given> {
-    let mut given = given.clone();
-    if let Some((field, position)) = setting(given.call) {
-        let (field, position) = to(field, position)?;
-        given.call = with_setting(given.call, field, position);
+impl Moves<'_> {
+    fn case(&self, case: &Case, sheet: &Sheet) -> Case {
+        let step = |step: &Step| match step {
+            Step::Forge(words) => Some(Step::Forge(Box::new(self.words(words)))),
+            Step::Call(given) => self.call(given).map(Step::Call),
+        };
+        Case { sheet: bytes(sheet), session: Box::new(self.words(&case.session)), steps: case.steps.iter().filter_map(step).collect() }
     }
-    given.order = order(&given.order);
-    Some(given)
-}
 
-fn words_moved(words: &Words, to: Move, masks: &dyn Fn(&mut [u32])) -> Words {
-    let mut after = *words;
-    masks(&mut after[..24]);
-    masks(&mut after[24..48]);
-    let count = words[240].min(64) as usize;
-    let mut kept = 0;
-    for event in words[48..240].chunks(3).take(count) {
-        if let Some((field, position)) = to(event[1], event[2]) {
-            after[48 + 3 * kept..][..3].copy_from_slice(&[event[0], field, position]);
-            kept += 1;
+    fn call(&self, given: &Given) -> Option<Given> {
+        let mut given = given.clone();
+        if let Call::Open(selected) = &mut given.call {
+            *selected = (self.selected)(*selected);
         }
+        if let Some((field, position)) = setting(given.call) {
+            let (field, position) = (self.setting)(field, position)?;
+            given.call = with_setting(given.call, field, position);
+        }
+        given.order = (self.order)(&given.order);
+        Some(given)
     }
-    if words[240] <= 64 {
-        after[240] = kept as u32;
+
+    fn words(&self, words: &Words) -> Words {
+        let mut after = *words;
+        (self.masks)(&mut after[..24]);
+        (self.masks)(&mut after[24..48]);
+        let count = words[COUNT].min(64) as usize;
+        let mut kept = 0;
+        for event in words[48..COUNT].chunks(3).take(count) {
+            if let Some((field, position)) = (self.setting)(event[1], event[2]) {
+                after[48 + 3 * kept..][..3].copy_from_slice(&[event[0], field, position]);
+                kept += 1;
+            }
+        }
+        if words[COUNT] <= 64 {
+            after[COUNT] = kept as u32;
+        }
+        after[SELECTED] = (self.selected)(words[SELECTED]);
+        after
     }
-    after
 }
 
 /// The case without a field.
@@ -68,13 +82,14 @@ pub fn without_field(case: &Case, f: usize) -> Option<Case> {
         rule.i -= usize::from(rule.i > f);
         rule.j -= usize::from(rule.j > f);
     }
-    let to = |field: u32, position: u32| moved(field, f).map(|field| (field, position));
+    let setting = |field: u32, position: u32| moved(field, f).map(|field| (field, position));
     let order = |order: &[u8]| order.iter().filter_map(|&field| moved(field.into(), f)).map(|field| field as u8).collect();
     let masks = |masks: &mut [u32]| {
         masks.copy_within(f + 1.., f);
         masks[23] = 0;
     };
-    Some(moved_steps(case, &sheet, &to, &order, &masks))
+    let selected = |selected: u32| without_bit(selected, f);
+    Some(Moves { setting: &setting, order: &order, masks: &masks, selected: &selected }.case(case, &sheet))
 }
 
 /// The case without a setting.
@@ -90,12 +105,12 @@ pub fn without_setting(case: &Case, f: usize, v: usize) -> Option<Case> {
             rule.numbers.iter_mut().for_each(|mask| *mask = without_bit(*mask, v));
         }
     }
-    let to = |field: u32, position: u32| {
+    let setting = |field: u32, position: u32| {
         let position = if field as usize == f { moved(position, v)? } else { position };
         Some((field, position))
     };
     let masks = |masks: &mut [u32]| masks[f] = without_bit(masks[f], v);
-    Some(moved_steps(case, &sheet, &to, &<[u8]>::to_vec, &masks))
+    Some(Moves { setting: &setting, order: &<[u8]>::to_vec, masks: &masks, selected: &|selected| selected }.case(case, &sheet))
 }
 
 /// The case with its sheet changed.

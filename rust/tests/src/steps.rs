@@ -2,6 +2,7 @@
 
 use crate::case::{with_setting, Fill, Given, Step, ENOUGH};
 use crate::forge;
+use crate::selections::{any, bad, good};
 use crate::shapes::{self, Size};
 use crate::sheets::{bytes, damaged};
 use crate::Random;
@@ -21,10 +22,11 @@ pub struct Habits {
 impl Habits {
     /// The habits of one sequence.
     pub fn draw(random: &mut Random, forging: bool) -> Habits {
-        let mut weights = match random.below(5) {
+        let mut weights = match random.below(6) {
             0 => [0, 0, 1, 20, 1, 20, 1, 0],
             1 => [0, 1, 5, 10, 5, 8, 25, 1],
             2 => [1, 4, 2, 20, 1, 3, 4, 1],
+            3 => [8, 4, 4, 8, 2, 3, 4, 3],
             _ => [1, 3, 10, 12, 8, 8, 6, 1],
         };
         weights[1] += if forging { 5 } else { 0 };
@@ -51,13 +53,14 @@ pub fn next(random: &mut Random, habits: &Habits, sheet: &Sheet, words: &Words) 
 
 /// A valid open.
 pub fn opening(random: &mut Random, sheet: &Sheet) -> Step {
-    Step::Call(valid(random, sheet, Call::Open))
+    let selected = good(random, sheet.fields());
+    Step::Call(valid(random, sheet, Call::Open(selected)))
 }
 
 fn call(random: &mut Random, habits: &Habits, sheet: &Sheet, words: &Words) -> Call {
     let (field, position) = forge::setting(random, sheet);
     match random.weighted(&habits.weights) {
-        0 => Call::Open,
+        0 => Call::Open(any(random, sheet.fields())),
         1 => Call::Show,
         2 => Call::Choose(field, position),
         3 => Call::Strike(field, position),
@@ -93,6 +96,10 @@ fn valid(random: &mut Random, sheet: &Sheet, call: Call) -> Given {
 
 /// Makes one argument wrong, or at least unusual.
 fn spoil(random: &mut Random, sheet: &Sheet, given: &mut Given) {
+    if matches!(given.call, Call::Open(_)) && random.one_in(2) {
+        given.call = Call::Open(bad(random, sheet.fields()));
+        return;
+    }
     match random.below(7) {
         0 => given.engine = random.pick(&[0, 1, 2, 3, 4, 5, 257, 258, u32::MAX]),
         1 | 2 => {

@@ -1,9 +1,11 @@
-//! How often each call gave each number, which sheets it met, and with which engine at which reach calls were accepted.
+//! How often each call gave each number, which sheets it met, with which engine at which reach calls were accepted, and which fields were
+//! selected.
 
 use crate::case::Given;
+use crate::selections::Extent;
 use crate::sheets::widest;
 use solver::{reading, Call, Sheet};
-use std::collections::BTreeSet;
+use std::collections::{BTreeMap, BTreeSet};
 use std::fmt;
 
 const NAMES: [&str; 8] = ["open", "show", "choose", "strike", "withdraw-choice", "withdraw-strike", "back", "coil-on"];
@@ -15,7 +17,7 @@ pub fn name(call: Call) -> &'static str {
 
 fn place(call: Call) -> usize {
     match call {
-        Call::Open => 0,
+        Call::Open(_) => 0,
         Call::Show => 1,
         Call::Choose(..) => 2,
         Call::Strike(..) => 3,
@@ -28,9 +30,16 @@ fn place(call: Call) -> usize {
 
 #[derive(Clone, Debug, Default)]
 pub struct Tally {
-    counts: [[u64; 16]; 8],
+    counts: [[u64; 19]; 8],
     /// The accepted calls, for each engine by the reach of their sheet.
     pub accepted: [[u64; 24]; 3],
+    /// The accepted calls, for each engine by what is selected.
+    pub selected: [BTreeMap<Extent, u64>; 3],
+    /// The masks that were judged: those that open was given, and those of the session in other calls.
+    pub opened: BTreeMap<Extent, u64>,
+    pub held: BTreeMap<Extent, u64>,
+    /// The accepted opens that put another good mask in the place of one.
+    pub reselected: u64,
     pub fields: BTreeSet<usize>,
     pub settings: BTreeSet<usize>,
     pub reaches: BTreeSet<u32>,
@@ -40,12 +49,23 @@ pub struct Tally {
 }
 
 impl Tally {
-    /// Counts a call on a sheet, which gave this number.
-    pub fn add(&mut self, given: &Given, sheet: &[u8], number: u32) {
+    /// Counts a call on a sheet, which gave this number. The session's mask before it is `held`.
+    pub fn add(&mut self, given: &Given, sheet: &[u8], held: u32, number: u32) {
         self.counts[place(given.call)][number as usize] += 1;
+        if (1..=6).contains(&number) {
+            return;
+        }
+        let sheet = reading::sheet(given.sheet.as_deref().unwrap_or(sheet)).expect("the sheet was read");
+        let (masks, selected) = match given.call {
+            Call::Open(selected) => (&mut self.opened, selected),
+            _ => (&mut self.held, held),
+        };
+        let extent = Extent::of(selected, sheet.fields());
+        *masks.entry(extent).or_default() += 1;
         if number == 0 {
-            let sheet = reading::sheet(given.sheet.as_deref().unwrap_or(sheet)).expect("the call was accepted");
             self.accepted[given.engine as usize - 1][sheet.reach as usize - 1] += 1;
+            *self.selected[given.engine as usize - 1].entry(extent).or_default() += 1;
+            self.reselected += u64::from(selected != held && sheet.selects(held));
         }
     }
 
@@ -86,6 +106,10 @@ impl fmt::Display for Tally {
             let short: u64 = accepted[..23].iter().sum();
             writeln!(formatter, "engine {engine}: {short} accepted at the reaches below 24, {whole} at 24, at each reach {least} or more")?;
         }
+        for (engine, selected) in (1..).zip(&self.selected) {
+            writeln!(formatter, "engine {engine}: accepted by what is selected {selected:?}")?;
+        }
+        writeln!(formatter, "masks of open {:?}, of other calls {:?}, {} selected afresh", self.opened, self.held, self.reselected)?;
         let (setting, c) = self.widest;
         write!(formatter, "settings up to {setting}, c up to {c}")
     }

@@ -26,12 +26,13 @@ pub fn sheet(random: &mut Random, size: Size) -> Sheet {
 
 fn good(random: &mut Random, sheet: &Sheet, stubborn: bool) -> bool {
     let network = Network::of(sheet);
-    let offers = network.offers(network.full);
+    let offers = network.offers(network.full, sheet.all_fields());
     if network.wiped_out(&offers) {
         return false;
     }
     let every: Vec<usize> = (0..sheet.fields()).collect();
     let closed = network.closing(network.full, &every);
-    let mut hasty = || one_pass(&network, closed) != offers || short_queue(&network, closed, &random.order(sheet.fields())) != offers;
+    let order = random.order(sheet.fields());
+    let hasty = || one_pass(&network, closed, &order) != offers || short_queue(&network, closed, &order) != offers;
     !stubborn || closed != offers && hasty()
 }

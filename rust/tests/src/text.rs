@@ -39,6 +39,9 @@ fn pairs(words: &Words) -> String {
 
 fn line(given: &Given) -> String {
     let mut line = name(given.call).to_string();
+    if let Call::Open(selected) = given.call {
+        write!(line, " {selected}").unwrap();
+    }
     if let Some((field, position)) = setting(given.call) {
         write!(line, " {field} {position}").unwrap();
     }
@@ -95,7 +98,7 @@ fn number(tokens: &mut SplitWhitespace) -> u64 {
 
 fn call(name: &str, tokens: &mut SplitWhitespace) -> Call {
     let call = match name {
-        "open" => return Call::Open,
+        "open" => return Call::Open(number(tokens) as u32),
         "show" => return Call::Show,
         "back" => return Call::Back,
         "coil-on" => return Call::CoilOn,

@@ -3,6 +3,7 @@
 use belaykeel::{Engine, Offers, Order, Refusal, Session, Sheet, WorkSpaces};
 use solver::reading::groups;
 use solver::Call;
+use tests::selections::{self, selection};
 use tests::sheets::{self, bytes};
 
 const SHEET_D: [u8; 19] =
@@ -11,7 +12,7 @@ const SHEET_D: [u8; 19] =
 fn call(session: &mut Session, sheet: &Sheet, engine: Engine, call: Call, spaces: &mut WorkSpaces) -> Result<Offers, Refusal> {
     let order = &Order::Rising;
     match call {
-        Call::Open => session.open(sheet, engine, order, spaces),
+        Call::Open(selected) => session.open(sheet, engine, order, &selection(selected, fields(sheet)), spaces),
         Call::Show => session.show(sheet, engine, order, spaces),
         Call::Choose(f, v) => session.choose(sheet, engine, order, f, v, spaces),
         Call::Strike(f, v) => session.strike(sheet, engine, order, f, v, spaces),
@@ -22,8 +23,12 @@ fn call(session: &mut Session, sheet: &Sheet, engine: Engine, call: Call, spaces
     }
 }
 
+fn fields(sheet: &Sheet) -> usize {
+    sheet.as_bytes()[0].into()
+}
+
 /// What the last of these calls gives: the masks or the number. The calls before it are accepted.
-fn last(sheet: &Sheet, engine: Engine, calls: &[Call]) -> Result<Vec<u32>, u32> {
+fn answer(sheet: &Sheet, engine: Engine, calls: &[Call]) -> Result<Vec<u32>, u32> {
     let mut spaces = WorkSpaces::new();
     let mut session = Session::default();
     let (&end, before) = calls.split_last().expect("a call");
@@ -34,6 +39,12 @@ fn last(sheet: &Sheet, engine: Engine, calls: &[Call]) -> Result<Vec<u32>, u32> 
     answer.map(|offers| offers.masks().to_vec()).map_err(Refusal::number)
 }
 
+/// The same after an open with every field selected; without a call, what that open gives.
+fn last(sheet: &Sheet, engine: Engine, calls: &[Call]) -> Result<Vec<u32>, u32> {
+    let open = Call::Open(selections::all(fields(sheet)));
+    answer(sheet, engine, &[&[open], calls].concat())
+}
+
 /// Fields {1, 2}, the fields of each pair unequal.
 fn unequal(fields: usize, reach: u32, pairs: &[(usize, usize)]) -> Sheet {
     Sheet::from_bytes(bytes(&sheets::unequal(fields, reach, pairs)))
@@ -41,24 +52,24 @@ fn unequal(fields: usize, reach: u32, pairs: &[(usize, usize)]) -> Sheet {
 
 #[test]
 fn sheet_d() {
-    use Call::{Back, Choose, CoilOn, Open, Show, Strike, WithdrawChoice, WithdrawStrike};
+    use Call::{Back, Choose, CoilOn, Show, Strike, WithdrawChoice, WithdrawStrike};
     let sheet = Sheet::from_bytes(SHEET_D);
     for engine in Engine::ALL {
         let last = |calls: &[Call]| last(&sheet, engine, calls);
-        assert_eq!(last(&[Open]), Ok(vec![6, 3]));
-        assert_eq!(last(&[Open, Show]), Ok(vec![6, 3]));
-        assert_eq!(last(&[Open, Strike(0, 2)]), Ok(vec![2, 1]));
-        assert_eq!(last(&[Open, Strike(0, 2), Choose(1, 1)]), Err(14));
-        assert_eq!(last(&[Open, Strike(0, 2), Choose(1, 0), WithdrawStrike(0, 2)]), Ok(vec![6, 1]));
-        assert_eq!(last(&[Open, Strike(0, 2), Choose(1, 0), WithdrawStrike(0, 2), Back]), Ok(vec![2, 1]));
-        assert_eq!(last(&[Open, Strike(0, 2), Choose(1, 0), CoilOn, WithdrawChoice(1, 0)]), Ok(vec![2, 1]));
-        assert_eq!(last(&[Open, Choose(0, 0)]), Err(14));
-        assert_eq!(last(&[Open, Strike(0, 0)]), Ok(vec![6, 3]));
-        assert_eq!(last(&[Open, Strike(0, 0), Strike(0, 0)]), Err(10));
-        assert_eq!(last(&[Open, WithdrawStrike(0, 0)]), Err(11));
-        assert_eq!(last(&[Open, Strike(0, 0), CoilOn, Back]), Err(13));
-        assert_eq!(last(&[Open, Strike(2, 0)]), Err(7));
-        assert_eq!(last(&[Open, Strike(0, 3)]), Err(7));
+        assert_eq!(last(&[]), Ok(vec![6, 3]));
+        assert_eq!(last(&[Show]), Ok(vec![6, 3]));
+        assert_eq!(last(&[Strike(0, 2)]), Ok(vec![2, 1]));
+        assert_eq!(last(&[Strike(0, 2), Choose(1, 1)]), Err(14));
+        assert_eq!(last(&[Strike(0, 2), Choose(1, 0), WithdrawStrike(0, 2)]), Ok(vec![6, 1]));
+        assert_eq!(last(&[Strike(0, 2), Choose(1, 0), WithdrawStrike(0, 2), Back]), Ok(vec![2, 1]));
+        assert_eq!(last(&[Strike(0, 2), Choose(1, 0), CoilOn, WithdrawChoice(1, 0)]), Ok(vec![2, 1]));
+        assert_eq!(last(&[Choose(0, 0)]), Err(14));
+        assert_eq!(last(&[Strike(0, 0)]), Ok(vec![6, 3]));
+        assert_eq!(last(&[Strike(0, 0), Strike(0, 0)]), Err(10));
+        assert_eq!(last(&[WithdrawStrike(0, 0)]), Err(11));
+        assert_eq!(last(&[Strike(0, 0), CoilOn, Back]), Err(13));
+        assert_eq!(last(&[Strike(2, 0)]), Err(7));
+        assert_eq!(last(&[Strike(0, 3)]), Err(7));
     }
 }
 
@@ -68,9 +79,9 @@ fn triangles_and_rings() {
     let ring = [(0, 1), (0, 4), (1, 2), (2, 3), (3, 4)];
     let one = Sheet::from_bytes([0x01, 0x01, 0xAC, 0x02, 0x18, 0x00]);
     for engine in Engine::ALL {
-        assert_eq!(last(&one, engine, &[Call::Open]), Ok(vec![1]));
+        assert_eq!(last(&one, engine, &[]), Ok(vec![1]));
         for reach in 1..=24 {
-            let opened = |fields, pairs| last(&unequal(fields, reach, pairs), engine, &[Call::Open]);
+            let opened = |fields, pairs| last(&unequal(fields, reach, pairs), engine, &[]);
             assert_eq!((opened(3, &triangle), opened(4, &triangle)), (Err(14), Err(14)), "reach {reach}, {engine:?}");
             assert_eq!(opened(5, &ring), if reach == 1 { Ok(vec![3; 5]) } else { Err(14) }, "reach {reach}, {engine:?}");
         }
@@ -82,7 +93,7 @@ fn triangles_and_rings() {
 fn edger_widths() {
     let edges = |kind, c| [2, 3, 0, 65_536, 1_000_000, 2, 65_535, 999_999, 24, 1, 0, 1, kind, c];
     for engine in Engine::ALL {
-        let opened = |kind, c| last(&Sheet::from_bytes(groups(&edges(kind, c))), engine, &[Call::Open]);
+        let opened = |kind, c| last(&Sheet::from_bytes(groups(&edges(kind, c))), engine, &[]);
         assert_eq!(opened(1, 1), Ok(vec![6, 3]));
         assert_eq!(opened(1, 1_000_000), Err(14));
         assert_eq!(opened(2, 1), Ok(vec![3, 3]));
@@ -101,7 +112,7 @@ fn equal_within_the_encoder() {
     let sheet = |c| [&[3][..], &far, &[1, 0], &far, &[24, 2, 0, 1, 5, c, 1, 2, 5, c]].concat();
     for engine in Engine::ALL {
         for (c, allowed) in [(0, 0x7), (1, 0xF), (2, 0x1F), (100, 0x180), (1_000_000, 0x1800)] {
-            let opened = last(&Sheet::from_bytes(groups(&sheet(c))), engine, &[Call::Open]);
+            let opened = last(&Sheet::from_bytes(groups(&sheet(c))), engine, &[]);
             assert_eq!(opened, Ok(vec![allowed, 1, allowed]));
         }
     }
@@ -125,7 +136,7 @@ fn kind_2_is_read_and_not_written() {
 fn sixty_four_events() {
     let sheet = Sheet::from_bytes(SHEET_D);
     for engine in Engine::ALL {
-        let mut calls = vec![Call::Open];
+        let mut calls = vec![];
         for _ in 0..32 {
             calls.extend([Call::Strike(0, 0), Call::WithdrawStrike(0, 0)]);
         }
@@ -151,4 +162,38 @@ fn ranges_and_groups() {
     assert_eq!(written(&fields(25)), Err(Refusal::OutOfRange));
     assert_eq!(Sheet::from_bytes([0x80, 0x00]).read(), Err(Refusal::IllFormed));
     assert_eq!(written(&[2, 1, 0, 1, 0, 24, 1, 1, 1, 5, 0]), Err(Refusal::OutOfOrder));
+}
+
+/// Two triangles of fields {1, 2}, {1, 2} and {1, 2, 3}, the fields of each unequal, and a field equal to the last of the first triangle.
+/// Closing keeps everything. Tests leave the last field of a triangle only 3, and closing then leaves the equal field only 3.
+#[test]
+fn some_fields_selected() {
+    let fields = [2, 1, 2, 2, 1, 2, 3, 1, 2, 3];
+    let unequal = |i: u32| [i, i + 1, 3, 1, i, i + 2, 3, 1, i + 1, i + 2, 3, 1];
+    for (engine, reach) in Engine::ALL.into_iter().flat_map(|engine| [1, 2, 24].map(|reach| (engine, reach))) {
+        let rules = [&unequal(0)[..], &[2, 6, 4, 0], &unequal(3)].concat();
+        let list = [&[7][..], &fields, &fields, &[3, 1, 2, 3, reach, 7], &rules].concat();
+        let sheet = Sheet::write(&list).expect("a sheet");
+        let opened = |selected| answer(&sheet, engine, &[Call::Open(selected)]);
+        let offered = |first, second| Ok(vec![3, 3, first, 3, 3, second, first]);
+        assert_eq!(opened(0b000_0011), offered(7, 7));
+        assert_eq!(opened(0b000_0100), offered(4, 7));
+        assert_eq!(opened(0b010_0000), offered(7, 4));
+        assert_eq!(opened(0b010_0100), offered(4, 4));
+        assert_eq!(opened(0b111_1111), offered(4, 4));
+        assert!([0, 1 << 7, 1 << 8, 1 << 31, u32::MAX].iter().all(|&selected| opened(selected) == Err(18)));
+    }
+}
+
+/// The triangle that tests wipe out and closing does not, and a field with no rule: wiped out exactly where a field of the triangle is
+/// selected.
+#[test]
+fn wiped_out_by_a_selected_field() {
+    for (engine, reach) in Engine::ALL.into_iter().flat_map(|engine| [1, 24].map(|reach| (engine, reach))) {
+        let sheet = unequal(4, reach, &[(0, 1), (0, 2), (1, 2)]);
+        for selected in 1..16 {
+            let expected = if selected == 0b1000 { Ok(vec![3; 4]) } else { Err(14) };
+            assert_eq!(answer(&sheet, engine, &[Call::Open(selected)]), expected, "{selected:b}, reach {reach}, {engine:?}");
+        }
+    }
 }

@@ -1,7 +1,8 @@
 //! Every set of causes that can meet in one call: the number is that of the first in the scope paper's order.
 
+use solver::session::{COUNT, SELECTED};
 use solver::Call;
-use tests::case::{empty_session, Case, Given, Step};
+use tests::case::{empty_session, with_setting, Case, Given, Step};
 use tests::linked::Linked;
 use tests::runner::{run, Runner};
 use tests::text::print;
@@ -20,7 +21,10 @@ struct Causes {
     short: bool,
     /// 1 to 5, or 0 for a sheet without fault.
     sheet: u32,
+    /// A decision of the session is not on the sheet.
     malformed: bool,
+    /// The mask that open is given, and that the session has for other calls.
+    selected: u32,
     engine: Engine,
     off_sheet: bool,
     order: bool,
@@ -34,13 +38,18 @@ struct Causes {
 const ADDING: [Call; 2] = [Call::Choose(2, 0), Call::Strike(2, 0)];
 const WITHDRAWING: [Call; 2] = [Call::WithdrawChoice(2, 0), Call::WithdrawStrike(2, 0)];
 
+/// Masks for the three fields: all, the one without a rule, and four that are refused.
+const MASKS: [u32; 6] = [0b111, 0b100, 0, 0b1000, 0b1100, u32::MAX];
+
 fn expected(call: Call, causes: Causes) -> u32 {
     let (adding, withdrawing) = (ADDING.contains(&call), WITHDRAWING.contains(&call));
-    let decides = adding || withdrawing;
+    let (decides, opens) = (adding || withdrawing, matches!(call, Call::Open(_)));
+    let no_selection = causes.selected == 0 || causes.selected > 0b111;
     let order = [
         (6, causes.short),
         (causes.sheet, causes.sheet > 0),
-        (15, causes.malformed && call != Call::Open),
+        (15, (causes.malformed || no_selection) && !opens),
+        (18, no_selection && opens),
         (7, causes.engine == Engine::Four || causes.off_sheet && decides),
         (9, causes.order),
         (10, causes.force && adding),
@@ -71,6 +80,7 @@ fn sheet(causes: Causes) -> Vec<u8> {
 
 fn case(call: Call, causes: Causes) -> Case {
     let mut session = empty_session();
+    let opens = matches!(call, Call::Open(_));
     let held = if ADDING.contains(&call) { causes.force } else { WITHDRAWING.contains(&call) && !causes.force };
     let choice = matches!(call, Call::Choose(..) | Call::WithdrawChoice(..));
     session[if choice { 2 } else { 26 }] = u32::from(held);
@@ -78,10 +88,15 @@ fn case(call: Call, causes: Causes) -> Case {
         for place in 0..64 {
             session[48 + 3 * place..][..3].copy_from_slice(&[2 + 2 * (place as u32 % 2), 2, 1]);
         }
-        session[240] = 64;
+        session[COUNT] = 64;
     }
     session[47] = u32::from(causes.malformed);
-    let call = if causes.off_sheet { tests::case::with_setting(call, 2, 2) } else { call };
+    session[SELECTED] = if opens { 0b101 } else { causes.selected };
+    let call = match call {
+        Call::Open(_) => Call::Open(causes.selected),
+        _ if causes.off_sheet => with_setting(call, 2, 2),
+        _ => call,
+    };
     let mut given = Given::plain(call, if causes.order { vec![0, 1, 1] } else { vec![2, 0, 1] });
     given.engine = match causes.engine {
         Engine::Three => 3,
@@ -97,11 +112,11 @@ fn every() -> Vec<Causes> {
     let mut every = vec![];
     for code in 0..1 << 7 {
         let bit = |place: u32| code >> place & 1 == 1;
-        for sheet in 0..6 {
+        for (sheet, selected) in (0..6).flat_map(|sheet| MASKS.map(|selected| (sheet, selected))) {
             for engine in [Engine::Three, Engine::Four, Engine::TwoAtShortReach] {
                 let (short, malformed, off_sheet, order) = (bit(0), bit(1), bit(2), bit(3));
                 let (force, full, wiped) = (bit(4), bit(5), bit(6));
-                every.push(Causes { short, sheet, malformed, engine, off_sheet, order, force, full, wiped });
+                every.push(Causes { short, sheet, malformed, selected, engine, off_sheet, order, force, full, wiped });
             }
         }
     }
@@ -110,7 +125,7 @@ fn every() -> Vec<Causes> {
 
 #[test]
 fn first_cause_in_order() {
-    let others = [Call::Open, Call::Show, Call::Back, Call::CoilOn];
+    let others = [Call::Open(0), Call::Show, Call::Back, Call::CoilOn];
     let calls = ADDING.into_iter().chain(WITHDRAWING).chain(others);
     for (call, causes) in calls.flat_map(|call| every().into_iter().map(move |causes| (call, causes))) {
         let case = case(call, causes);

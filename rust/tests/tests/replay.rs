@@ -6,11 +6,11 @@ use tests::text::{parse, print};
 
 const KEPT: &str = "\
 sheet 02 03 64 C8 01 AC 02 03 64 C8 01 AC 02 18 01 00 01 01 64
-session 3:7 240:65
-open engine 1 offers 24 rows 13248 memory 13824 fill word 0 order 0 1
+session 3:7 240:65 241:5
+open 2 engine 1 offers 24 rows 13248 memory 13824 fill word 0 order 0 1
 strike 0 2 engine 2 offers 25 rows 13248 memory 13824 fill noise 7 order 1 0
 show engine 0 offers 24 rows 0 memory 13824 fill left order 1 1 sheet 80 00
-session 0:1 48:1 240:1
+session 0:1 48:1 240:1 241:1
 back engine 3 offers 24 rows 13248 memory 13825 fill left order 1 0
 ";
 

@@ -1,7 +1,7 @@
 //! The retired kind: a sheet with a rule of kind 2 is read and used as before, and the writer refuses its list of numbers by 20, where no
 //! number before that kind is at fault.
 
-use belaykeel::{raw, Engine, Order, Refusal, Session, Sheet, WorkSpaces};
+use belaykeel::{raw, Engine, Order, Refusal, Selection, Session, Sheet, WorkSpaces};
 use solver::reading::groups;
 use solver::Network;
 use tests::shapes::{self, Size};
@@ -35,11 +35,11 @@ fn read_and_used(sheet: &solver::Sheet, list: &[u32], spaces: &mut WorkSpaces) {
     let bytes = Sheet::from_bytes(groups(list));
     assert_eq!(bytes.read(), Ok(list.to_vec()));
     let network = Network::of(sheet);
-    let offers = network.offers(network.full)[..sheet.fields()].to_vec();
+    let offers = network.offers(network.full, sheet.all_fields())[..sheet.fields()].to_vec();
     let expected = if offers.contains(&0) { Err(Refusal::WipedOut) } else { Ok(offers) };
     for engine in Engine::ALL {
-        let opened = Session::default().open(&bytes, engine, &Order::Rising, spaces).map(|offers| offers.masks().to_vec());
-        assert_eq!(opened, expected, "{list:?}, {engine:?}");
+        let opened = Session::default().open(&bytes, engine, &Order::Rising, &Selection::All, spaces);
+        assert_eq!(opened.map(|offers| offers.masks().to_vec()), expected, "{list:?}, {engine:?}");
     }
 }
 

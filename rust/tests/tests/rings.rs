@@ -1,6 +1,6 @@
 //! Rings that have no complete set-up: wiped out exactly where the reach sees the whole ring. Every count of fields with every reach.
 
-use belaykeel::{Engine, Order, Refusal, Session, Sheet, WorkSpaces};
+use belaykeel::{Engine, Order, Refusal, Selection, Session, Sheet, WorkSpaces};
 use solver::Rule;
 use tests::shapes::ring;
 use tests::sheets::bytes;
@@ -17,6 +17,11 @@ fn odd_ring(fields: usize, reach: u32) -> Sheet {
     Sheet::from_bytes(bytes(&sheet))
 }
 
+/// The masks of an open with every field selected.
+fn opened(sheet: &Sheet, engine: Engine, order: &Order, spaces: &mut WorkSpaces) -> Result<Vec<u32>, Refusal> {
+    Session::default().open(sheet, engine, order, &Selection::All, spaces).map(|offers| offers.masks().to_vec())
+}
+
 #[test]
 fn wiped_out_where_the_reach_sees_the_ring() {
     let mut random = Random(3);
@@ -27,7 +32,7 @@ fn wiped_out_where_the_reach_sees_the_ring() {
             let order = Order::Listed(random.order(fields));
             let seen = reach == 24 || 2 * reach as usize + 1 >= fields;
             for engine in Engine::ALL {
-                let answer = Session::default().open(&sheet, engine, &order, &mut spaces).map(|offers| offers.masks().to_vec());
+                let answer = opened(&sheet, engine, &order, &mut spaces);
                 let expected = if seen { Err(Refusal::WipedOut) } else { Ok(vec![3; fields]) };
                 assert_eq!(answer, expected, "{fields} fields, reach {reach}, {engine:?}");
             }
@@ -45,7 +50,7 @@ fn chains_of_every_length_and_width() {
             let settings = vec![(0..d as u32).collect(); fields];
             let sheet = Sheet::from_bytes(bytes(&solver::Sheet { settings, reach: 24, rules }));
             for engine in Engine::ALL {
-                let answer = Session::default().open(&sheet, engine, &Order::Rising, &mut spaces).map(|offers| offers.masks().to_vec());
+                let answer = opened(&sheet, engine, &Order::Rising, &mut spaces);
                 let masks = |room: usize| (0..fields).map(|f| ((1 << room) - 1) << f).collect();
                 let expected = (d + 1).checked_sub(fields).filter(|&room| room > 0).map(masks).ok_or(Refusal::WipedOut);
                 assert_eq!(answer, expected, "{fields} fields, {d} settings, {engine:?}");

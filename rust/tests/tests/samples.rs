@@ -1,14 +1,21 @@
 //! The sample page of three passes: its bytes are those of its list of numbers, and its offers are those of the definitions.
 
-use belaykeel::{Engine, Order, Refusal, Session, Sheet, WorkSpaces};
+use belaykeel::{Engine, Offers, Order, Refusal, Selection, Session, Sheet, WorkSpaces};
 use solver::reading::{groups, sheet};
 use solver::{Network, Set};
 use std::fmt::Write;
 use std::fs;
+use tests::sac2::sac2;
 use tests::text::numbers;
 
 fn sample(ending: &str) -> Vec<u8> {
     fs::read(format!("{}/../../samples/three-pass.{ending}", env!("CARGO_MANIFEST_DIR"))).expect("a sample")
+}
+
+/// The offers of an open.
+fn opened(sheet: &Sheet, engine: Engine, selection: &Selection) -> Offers {
+    let mut spaces = WorkSpaces::new();
+    Session::default().open(sheet, engine, &Order::Rising, selection, &mut spaces).expect("the offers")
 }
 
 fn text(ending: &str) -> String {
@@ -31,8 +38,7 @@ fn the_same_page_with_kind_2() {
     assert_eq!(Sheet::write(&list), Err(Refusal::Retired));
     let sheets = [Sheet::from_bytes(sample("bin")), Sheet::from_bytes(groups(&list))];
     for engine in Engine::ALL {
-        let opened = |sheet| Session::default().open(sheet, engine, &Order::Rising, &mut WorkSpaces::new()).expect("the offers");
-        assert_eq!(opened(&sheets[0]), opened(&sheets[1]));
+        assert_eq!(opened(&sheets[0], engine, &Selection::All), opened(&sheets[1], engine, &Selection::All));
     }
 }
 
@@ -42,11 +48,9 @@ fn offers_of_the_definitions() {
     let page = sheet(&sample("bin")).expect("a sheet");
     let network = Network::of(&page);
     let every: Vec<usize> = (0..page.fields()).collect();
-    let [closed, offers] = [network.closing(network.full, &every), network.offers(network.full)];
+    let [closed, offers] = [network.closing(network.full, &every), network.offers(network.full, page.all_fields())];
     for engine in Engine::ALL {
-        let (bytes, mut spaces) = (Sheet::from_bytes(sample("bin")), WorkSpaces::new());
-        let opened = Session::default().open(&bytes, engine, &Order::Rising, &mut spaces).expect("the offers");
-        assert_eq!(opened.masks(), &offers[..page.fields()]);
+        assert_eq!(opened(&Sheet::from_bytes(sample("bin")), engine, &Selection::All).masks(), &offers[..page.fields()]);
     }
     let fewer = |less: &Set, more: &Set| every.iter().filter(|&&field| less[field].count_ones() < more[field].count_ones()).count();
     assert_eq!((fewer(&closed, &network.full), fewer(&offers, &closed)), (5, 4));
@@ -57,4 +61,25 @@ fn offers_of_the_definitions() {
         writeln!(printed, "{field}:{line}").expect("a line");
     }
     assert_eq!(printed, text("out"));
+}
+
+/// With the roll pair of pass 3 alone selected the page is that with every field selected, after 5 tests of settings; SAC-1 makes 50. With
+/// any other field alone it offers more.
+#[test]
+fn one_field_selected() {
+    let page = sheet(&sample("bin")).expect("a sheet");
+    let network = Network::of(&page);
+    let every: Vec<usize> = (0..page.fields()).collect();
+    let all = network.offers(network.full, page.all_fields());
+    let fields: Vec<u8> = (0..8).collect();
+    let tests = |selected: &[u8]| sac2(&network, network.closing(network.full, &every), selected, |_, _| false).1;
+    assert_eq!((tests(&[7]), tests(&fields)), (5, 50));
+    for field in 0..8 {
+        let offers = network.offers(network.full, 1 << field);
+        assert_eq!(offers == all, field == 7);
+        for engine in Engine::ALL {
+            let opened = opened(&Sheet::from_bytes(sample("bin")), engine, &Selection::Fields(vec![field]));
+            assert_eq!(opened.masks(), &offers[..page.fields()]);
+        }
+    }
 }

@@ -3,6 +3,7 @@
 
 use tests::drive::{environment, sequences, Plan};
 use tests::linked::Linked;
+use tests::selections::Extent;
 use tests::shapes::Size;
 use tests::tally::Tally;
 
@@ -22,22 +23,38 @@ fn all_given(tally: &Tally, numbers: &[u32]) {
     }
 }
 
+/// Each engine was accepted with every sort of good mask, open was given masks of every sort, and put other masks in the place of good
+/// ones, where there were calls enough to ask for it.
+fn all_selected(tally: &Tally) {
+    if tally.calls() >= 10_000 {
+        let accepted = tally.selected.iter().all(|selected| selected.keys().eq(&Extent::GOOD));
+        let opened = tally.opened.keys().eq(Extent::GOOD.iter().chain(&Extent::BAD));
+        assert!(accepted && opened && tally.reselected > 0, "{tally}");
+    }
+}
+
 #[test]
 fn small_sheets() {
     let tally = share(Size::Small, false, false, 500);
-    all_given(&tally, &[0, 1, 2, 3, 4, 5, 6, 7, 9, 10, 11, 12, 13, 14]);
+    all_given(&tally, &[0, 1, 2, 3, 4, 5, 6, 7, 9, 10, 11, 12, 13, 14, 18]);
+    all_selected(&tally);
 }
 
 #[test]
 fn forged_sessions() {
     let tally = share(Size::Small, true, false, 250);
-    all_given(&tally, &[0, 1, 2, 3, 4, 5, 6, 7, 9, 10, 11, 12, 13, 14, 15]);
+    all_given(&tally, &[0, 1, 2, 3, 4, 5, 6, 7, 9, 10, 11, 12, 13, 14, 15, 18]);
+    all_selected(&tally);
+    if tally.calls() >= 10_000 {
+        assert!(tally.held.keys().eq(Extent::GOOD.iter().chain(&Extent::BAD)), "{tally}");
+    }
 }
 
 #[test]
 fn long_sheets() {
     let tally = share(Size::Long, false, false, 150);
-    all_given(&tally, &[0, 6, 7, 9, 10, 11, 12, 13, 14]);
+    all_given(&tally, &[0, 6, 7, 9, 10, 11, 12, 13, 14, 18]);
+    all_selected(&tally);
     if tally.calls() >= 10_000 {
         let counts = (tally.fields.len(), tally.settings.len(), tally.reaches.len(), tally.kinds.len());
         assert_eq!(counts, (24, 24, 24, 6), "{tally}");

@@ -14,8 +14,9 @@ slice-aggregate-open c = sym (length-take-le _ _ (c .before .before .before .bef
 
 returns : tie.Need-returns
 returns c =
-    let a = c .before .before .before .before .before .before .before .before .before .before .args in
-    opening-is (now (a .sheet)) (a .n) _ _ _ _ _ (c .before .before .before .before .before .before .before .fresh .ensures)
+    let mask = c .before .before .before .before .before .before in
+    let a = mask .before .before .before .before .before .args in
+    opening-is (now (a .sheet)) (a .n) _ _ _ _ _ _ (mask .all-fields .ensures) (mask .before .before .fresh .ensures)
     (length-replicate {A = ℕ} rowsWords 0) (length-replicate {A = ℕ} memoryWords 0) (c .before .before .«open» .ensures)
 
 pub open-rising-spec : {M : Type 1} → statement M
@@ -25,6 +26,7 @@ open-rising-spec =
     (λ c. search needs)
     (λ c κs. search needs)
     slice-aggregate-open
+    (λ c κs. search needs)
     (λ c. search needs)
     (λ c. search needs)
     (λ c κs. search needs)

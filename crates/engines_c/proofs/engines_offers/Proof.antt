@@ -27,7 +27,7 @@ run-requires c κs =
     let built = turned .before .before .before .before .before in
     let p = built .before .before .before .before .before .before .pre in
     rw (turned .before .forward .ensures, turned .turned .ensures)
-    (run-asks _ (p .accepted) _ _ _ (built .build .ensures) _ _ (p .visits) (p .masks) (p .on), p .room)
+    (run-asks _ _ _ _ (built .build .ensures) _ _ _ (p .visits) (p .selected-fields) (p .masks) (p .on), p .room)
 
 same-length : tie.Need-same-length
 same-length c = search needs
@@ -40,7 +40,7 @@ returns c =
     let turned = c .before .before .before .before .before in
     let built = turned .before .before .before .before .before in
     let answer = rw (turned .before .forward .ensures, turned .turned .ensures) at (c .before .before .run .ensures) in
-    answers _ (built .before .before .before .before .before .before .pre .accepted) _ _ _ (built .build .ensures) _ _ _ answer
+    answers _ _ _ _ (built .build .ensures) _ _ _ _ answer
 
 pub engines-offers-spec : {M : Type 1} → statement M
 engines-offers-spec =

@@ -9,7 +9,7 @@ use belaykeel::{Event, Session, EVENTS};
 use solver::Call;
 use tests::linked::Library;
 
-/// A method to find the offers, with the numbers of the sheet, the start set and the order that it is given.
+/// A method to find the offers, with the numbers of the sheet, the start set, the order and the mask of selected fields that it is given.
 pub struct Plain {
     method: Method,
     job: Job,
@@ -17,7 +17,7 @@ pub struct Plain {
 
 impl Plain {
     pub fn new(method: Method) -> Plain {
-        Plain { method, job: Job { numbers: vec![0; SHEET_NUMBERS], start: [0; MOST], order: Vec::with_capacity(MOST) } }
+        Plain { method, job: Job { numbers: vec![0; SHEET_NUMBERS], start: [0; MOST], order: Vec::with_capacity(MOST), selected: 0 } }
     }
 
     /// The whole call: the number of the first cause against it, in the order of the scope paper.
@@ -26,9 +26,12 @@ impl Plain {
             return Err(6);
         }
         let sheet = read_at_once(given.sheet, &mut self.job.numbers)?;
-        if call != Call::Open && malformed(session, &sheet) {
-            return Err(15);
-        }
+        let selected = match call {
+            Call::Open(selected) if !selects(selected, &sheet) => return Err(18),
+            Call::Open(selected) => selected,
+            _ if malformed(session, &sheet) => return Err(15),
+            _ => session.selected,
+        };
         let event = event(call);
         if given.engine < 1 || given.engine > 3 || event.is_some_and(|event| !on_sheet(&sheet, &event)) {
             return Err(7);
@@ -38,6 +41,7 @@ impl Plain {
         }
         let (decisions, count) = step(session, call, event)?;
         self.job.start = decisions.start_set(&sheet);
+        self.job.selected = selected;
         self.job.order.clear();
         self.job.order.extend_from_slice(given.order);
         let offers = (self.method)(&self.job).offers.ok_or(14u32)?;
@@ -48,6 +52,7 @@ impl Plain {
             session.events[session.count as usize] = event;
         }
         session.count = count;
+        session.selected = selected;
         Ok(())
     }
 }
@@ -98,7 +103,7 @@ fn event(call: Call) -> Option<Event> {
         Call::Strike(field, position) => (2, field, position),
         Call::WithdrawChoice(field, position) => (3, field, position),
         Call::WithdrawStrike(field, position) => (4, field, position),
-        Call::Open | Call::Show | Call::Back | Call::CoilOn => return None,
+        Call::Open(_) | Call::Show | Call::Back | Call::CoilOn => return None,
     };
     Some(Event { kind, field, position })
 }
@@ -113,7 +118,12 @@ fn on_sheet(sheet: &Outline, event: &Event) -> bool {
     event.position < MOST as u32 && full >> event.position & 1 == 1
 }
 
-/// Whether a decision or an event is not on the sheet, or the events do not lead to the decisions.
+/// Whether a mask selects some field, and only fields of the sheet.
+fn selects(selected: u32, sheet: &Outline) -> bool {
+    selected != 0 && selected >> sheet.fields == 0
+}
+
+/// Whether a decision, an event or a selected field is not on the sheet, no field is selected, or the events do not lead to the decisions.
 fn malformed(session: &Session, sheet: &Outline) -> bool {
     let mut decisions = Decisions::of(session);
     let off_sheet = (0..MOST).fold(0, |off, f| off | (decisions.choices[f] | decisions.strikes[f]) & !sheet.full[f]);
@@ -121,7 +131,7 @@ fn malformed(session: &Session, sheet: &Outline) -> bool {
         return true;
     };
     let reversed = |event: &Event| (1..=4).contains(&event.kind) && on_sheet(sheet, event) && decisions.turn(event) != adds(event);
-    off_sheet != 0 || !events.iter().rev().all(reversed)
+    off_sheet != 0 || !selects(session.selected, sheet) || !events.iter().rev().all(reversed)
 }
 
 fn is_order(order: &[u8], fields: usize) -> bool {
@@ -143,7 +153,7 @@ fn step(session: &Session, call: Call, event: Option<Event>) -> Result<(Decision
             }
             count += 1;
         }
-        (Call::Open, _) => (decisions, count) = (Decisions { choices: [0; MOST], strikes: [0; MOST] }, 0),
+        (Call::Open(_), _) => (decisions, count) = (Decisions { choices: [0; MOST], strikes: [0; MOST] }, 0),
         (Call::CoilOn, _) => count = 0,
         (Call::Back, _) => {
             count = count.checked_sub(1).ok_or(13u32)?;

@@ -1,4 +1,4 @@
-//! The three methods over any way of closing.
+//! The three methods over any way of closing. They visit selected fields only; a removal closes the whole sheet again.
 
 use super::closing::{Closing, BITS};
 use super::network::{members, Network};
@@ -17,11 +17,11 @@ pub struct Solver<C> {
 pub type Memory = Box<[[Domains; MOST]; MOST]>;
 
 impl<C: Closing> Solver<C> {
-    /// SAC-1: passes over all fields in the given order, until one changes nothing.
+    /// SAC-1: passes over the fields in the given order, until one changes nothing.
     pub fn sac1(&mut self, job: &Job) -> Found {
         let mut tests = 0;
         let offers = self.begin(job).and_then(|domains| {
-            self.passes(domains, &job.order, |domains, f, v| {
+            self.passes(domains, job, |domains, f, v| {
                 tests += 1;
                 self.test(domains, f, v).is_some()
             })
@@ -34,7 +34,7 @@ impl<C: Closing> Solver<C> {
         let mut tests = 0;
         let mut known = [0; MOST];
         let offers = self.begin(job).and_then(|domains| {
-            self.passes(domains, &job.order, |domains, f, v| {
+            self.passes(domains, job, |domains, f, v| {
                 if known[f] & (1 << v) != 0 && holds(domains, &memory[f][v]) {
                     return true;
                 }
@@ -53,7 +53,7 @@ impl<C: Closing> Solver<C> {
     /// The queue method: only fields on the queue are visited, in the given order, and a removal puts fields back.
     pub fn queued(&mut self, job: &Job) -> Found {
         let mut tests = 0;
-        let offers = self.begin(job).and_then(|domains| self.drain(domains, &job.order, &mut tests));
+        let offers = self.begin(job).and_then(|domains| self.drain(domains, job, &mut tests));
         Found { offers, tests }
     }
 
@@ -69,21 +69,21 @@ impl<C: Closing> Solver<C> {
         Some(domains)
     }
 
-    fn passes(&self, mut domains: Domains, order: &[u8], mut passes: impl FnMut(&Domains, usize, usize) -> bool) -> Offers {
+    fn passes(&self, mut domains: Domains, job: &Job, mut passes: impl FnMut(&Domains, usize, usize) -> bool) -> Offers {
         let mut changed = true;
         while changed {
             changed = false;
-            for f in order.iter().map(|&f| usize::from(f)) {
+            for f in job.order.iter().map(|&f| usize::from(f)).filter(|f| job.selected & (1 << f) != 0) {
                 changed |= self.visit(&mut domains, f, |domains, v| passes(domains, f, v))? != 0;
             }
         }
         Some(domains)
     }
 
-    fn drain(&self, mut domains: Domains, order: &[u8], tests: &mut u64) -> Offers {
-        let mut queue = self.network.all();
+    fn drain(&self, mut domains: Domains, job: &Job, tests: &mut u64) -> Offers {
+        let mut queue = job.selected;
         while queue != 0 {
-            for f in order.iter().map(|&f| usize::from(f)) {
+            for f in job.order.iter().map(|&f| usize::from(f)) {
                 if queue & (1 << f) == 0 {
                     continue;
                 }
@@ -92,7 +92,7 @@ impl<C: Closing> Solver<C> {
                     *tests += 1;
                     self.test(domains, f, v).is_some()
                 })?;
-                queue |= put_back(&self.network, touched);
+                queue |= put_back(&self.network, touched) & job.selected;
             }
         }
         Some(domains)

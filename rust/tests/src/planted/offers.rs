@@ -16,12 +16,17 @@ impl Planted {
         let masks = &mut given.offers[..n];
         match self.fault {
             Fault::Restores => self.restore(call, masks),
-            Fault::RecordsOnly if self.shown.len() == n && call != Call::Open => masks.copy_from_slice(&self.shown),
+            Fault::RecordsOnly if self.shown.len() == n && !matches!(call, Call::Open(_)) => masks.copy_from_slice(&self.shown),
             Fault::LaterWords => given.offers[n..].iter_mut().take(1).for_each(|word| *word = 0),
             Fault::OnlyCloses | Fault::OnePass | Fault::ShortReach => self.weaken(session, &sheet, given),
             Fault::Wraps(_) | Fault::Tolerance(_) | Fault::OnlyAbove | Fault::StopsAtZero => self.weaken(session, &sheet, given),
             Fault::ShortQueue if given.engine == 3 => self.weaken(session, &sheet, given),
             Fault::StaleMemory if given.engine == 2 => self.weaken(session, &sheet, given),
+            Fault::TestsAll | Fault::TestsNone | Fault::TestsAmongSelected => self.weaken(session, &sheet, given),
+            Fault::ClosesSelected | Fault::ClosesNearby => self.weaken(session, &sheet, given),
+            Fault::PutsBackAll if given.engine == 3 => self.weaken(session, &sheet, given),
+            Fault::ShowTestsAll if call == Call::Show => self.weaken(session, &sheet, given),
+            Fault::DecidingTestsAll if matches!(call, Call::Choose(..) | Call::Strike(..)) => self.weaken(session, &sheet, given),
             _ => (),
         }
         self.shown = given.offers[..n].to_vec();
@@ -30,7 +35,7 @@ impl Planted {
     fn restore(&mut self, call: Call, masks: &mut [u32]) {
         let shown = &self.shown;
         match call {
-            Call::Open => self.removed.clear(),
+            Call::Open(_) => self.removed.clear(),
             Call::Choose(f, v) | Call::Strike(f, v) => {
                 let removed = masks.iter().zip(shown).map(|(mask, shown)| shown & !mask).collect();
                 self.removed.insert((matches!(call, Call::Choose(..)), f, v), removed);
@@ -54,14 +59,22 @@ impl Planted {
         }
         let network = Network::of(&sheet);
         let held = ledger(&words(session)).expect("the call was accepted");
+        let (selected, all) = (held.selected, sheet.all_fields());
         let every: Vec<usize> = (0..sheet.fields()).collect();
         let start = network.closing(held.start_set(&network.full), &every);
+        let visited: Vec<u8> = given.order.iter().copied().filter(|f| selected >> f & 1 == 1).collect();
         let offers = match self.fault {
             Fault::OnlyCloses => start,
-            Fault::OnePass => one_pass(&network, start),
-            Fault::ShortQueue => short_queue(&network, start, given.order),
-            Fault::StaleMemory => sac2(&network, start, given.order, |_, _| true).0,
-            _ => network.offers(start),
+            Fault::TestsNone if selected != all => start,
+            Fault::OnePass => one_pass(&network, start, &visited),
+            Fault::ShortQueue => short_queue(&network, start, &visited),
+            Fault::StaleMemory => sac2(&network, start, &visited, |_, _| true).0,
+            Fault::TestsAmongSelected => testing_among(&network, start, &sheet, selected),
+            Fault::ClosesSelected => closing_few(&network, start, &visited, &fields(selected)),
+            Fault::ClosesNearby => closing_few(&network, start, &visited, &nearby(&network, selected)),
+            Fault::PutsBackAll if network.offers(start, selected) == start => start,
+            Fault::TestsAll | Fault::ShowTestsAll | Fault::DecidingTestsAll | Fault::PutsBackAll => network.offers(start, all),
+            _ => network.offers(start, selected),
         };
         given.offers[..sheet.fields()].copy_from_slice(&offers[..sheet.fields()]);
     }
@@ -72,10 +85,55 @@ fn failing(network: &Network, set: &Set, f: usize) -> Vec<usize> {
     (0..MOST).filter(|v| set[f] >> v & 1 == 1 && !network.passes(set, f, *v)).collect()
 }
 
-/// Tests each setting once, and closes after each removal.
-pub fn one_pass(network: &Network, mut set: Set) -> Set {
+/// The fields of a mask.
+fn fields(selected: u32) -> Vec<usize> {
+    (0..MOST).filter(|f| selected >> f & 1 == 1).collect()
+}
+
+/// The fields of a mask, and those one rule away from one of them.
+fn nearby(network: &Network, selected: u32) -> Vec<usize> {
+    let near = |g: usize| fields(selected).into_iter().any(|f| f == g || network.joined(f, g));
+    (0..network.fields()).filter(|&g| near(g)).collect()
+}
+
+/// Tests the visited fields until all of their settings pass. A removal is followed by closing, over some fields only.
+fn closing_few(network: &Network, mut set: Set, visited: &[u8], closed: &[usize]) -> Set {
+    loop {
+        let before = set;
+        for f in visited.iter().map(|&f| f.into()) {
+            for v in failing(network, &set, f) {
+                set[f] &= !(1 << v);
+                set = network.closing(set, closed);
+            }
+        }
+        if set == before {
+            return set;
+        }
+    }
+}
+
+/// Tests the selected fields until all of their settings pass, where a test sees the rules between selected fields only.
+fn testing_among(network: &Network, mut set: Set, sheet: &Sheet, selected: u32) -> Set {
+    let mut seen = sheet.clone();
+    seen.rules.retain(|rule| selected >> rule.i & selected >> rule.j & 1 == 1);
+    let seen = Network::of(&seen);
     let every: Vec<usize> = (0..network.fields()).collect();
-    for f in 0..network.fields() {
+    loop {
+        let before = set;
+        for f in fields(selected) {
+            failing(&seen, &set, f).into_iter().for_each(|v| set[f] &= !(1 << v));
+        }
+        set = network.closing(set, &every);
+        if set == before {
+            return set;
+        }
+    }
+}
+
+/// Tests each setting of the visited fields once, and closes after each removal.
+pub fn one_pass(network: &Network, mut set: Set, visited: &[u8]) -> Set {
+    let every: Vec<usize> = (0..network.fields()).collect();
+    for f in visited.iter().map(|&f| f.into()) {
         for v in failing(network, &set, f) {
             set[f] &= !(1 << v);
             set = network.closing(set, &every);
@@ -84,16 +142,17 @@ pub fn one_pass(network: &Network, mut set: Set) -> Set {
     set
 }
 
-/// The queue method, where a removal puts back only the fields one rule away.
-pub fn short_queue(network: &Network, mut set: Set, order: &[u8]) -> Set {
+/// The queue method, where a removal puts back only those of the visited fields that are one rule away.
+pub fn short_queue(network: &Network, mut set: Set, visited: &[u8]) -> Set {
     let every: Vec<usize> = (0..network.fields()).collect();
-    let mut queue: Vec<usize> = order.iter().map(|&f| f.into()).collect();
+    let visited: Vec<usize> = visited.iter().map(|&f| f.into()).collect();
+    let mut queue = visited.clone();
     while !queue.is_empty() {
         let f = queue.remove(0);
         for v in failing(network, &set, f) {
             set[f] &= !(1 << v);
             set = network.closing(set, &every);
-            queue.extend((0..network.fields()).filter(|&g| network.joined(f, g)));
+            queue.extend(visited.iter().filter(|&&g| network.joined(f, g)));
         }
     }
     set

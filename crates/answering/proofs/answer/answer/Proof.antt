@@ -8,20 +8,21 @@ use denote.Ref.{now}
 use Rattle.sheet.specs.Sources.{refusal, numbers, ofBytes, Accepted}
 use Rattle.accepted.specs.declared.outline.Outline.{Outline}
 use Rattle.accepted.specs.Accept.{bytes-accepted}
-use Rattle.accepted.specs.Outline.{outlineOf}
-use Rattle.ledger.specs.Ledger.{Cause, first, judged, isOrder}
+use Rattle.accepted.specs.Outline.{outlineOf, outline-few}
+use Rattle.ledger.specs.Ledger.{Cause, first, noSelection, judged, isOrder}
 use Rattle.session.specs.View.{view, Sized}
-use Rattle.session.specs.Steps.{StepAsks}
+use Rattle.session.specs.Steps.{stepped, StepAsks}
 use Rattle.answering.specs.Answer.{Spaces, spaces}
 use Rattle.answering.specs.Intake.{TakenIn}
 use Rattle.answering.specs.Settle.{Prepared}
-use Rattle.answering.specs.Answering.{shortBy, Roomy, roomy, answers-short, answers-sheet, answers-judged, takes-step, is-order}
-use Rattle.answering.specs.Answering.{answers-wiped, answers-accepted}
+use Rattle.answering.specs.Answering.{shortBy, Roomy, roomy, answers-short, answers-sheet, answers-judged, takes-step}
+use Rattle.answering.specs.Answering.{is-order, selects, answers-wiped, answers-accepted}
 use borrow.Author.Needs.{needs}
 use Rattle.answering.proofs.answer.answer.Statement.{statement}
 use Rattle.answering.proofs.answer.answer.Tie as tie
 
--- ---- the places of the function, from a later one back: where it starts, 6 has been passed, 1 to 5 have, and 15, 7 and 9 to 13 have
+-- ---- the places of the function, from a later one back: where it starts, 6 has been passed, 1 to 5 have, and 15 or 18, 7 and
+-- 9 to 13 have
 abbrev start : tie.Else1 → tie.Start
 start c = c .before .before .before .before .before .before .before
 
@@ -67,7 +68,7 @@ unrefused c = sym (taken c .number) ∙ c .if2 .left
 front-accepted : (c : tie.Else2) → let r = taking c .take-in in Accepted (take (r .result .length) (r .last .1 .0))
 front-accepted c = rw (taken c .front (c .if2 .left)) (bytes-accepted (sheet c) (unrefused c))
 
--- ---- the cause among 15, 7 and 9 to 13
+-- ---- the cause among 15 or 18, 7 and 9 to 13
 abbrev causes : tie.Else2 → List Cause
 causes x =
     let s = start (roomed x) in
@@ -93,6 +94,17 @@ ordered c =
     let s = start (roomed x) in
     ap (λ (o : Outline). isOrder (o .fields) (now (s .args .order))) (taken x .outline (x .if2 .left))
     ∙ is-order (s .args .call) (s .args .session) (sized s) (sheet x) (s .args .engine) (now (s .args .order)) (lent s)
+    (short (roomed x)) (unrefused x) (no-cause c)
+
+-- the mask after the step is one that open would take
+selecting : (c : tie.Else3) → let x = read c in
+    let s = start (roomed x) in
+    noSelection (taking x .take-in .result .outline) (stepped (s .args .call) (s .args .session) .selected) ≡ false
+selecting c =
+    let x = read c in
+    let s = start (roomed x) in
+    ap (λ (o : Outline). noSelection o (stepped (s .args .call) (s .args .session) .selected)) (taken x .outline (x .if2 .left))
+    ∙ selects (s .args .call) (s .args .session) (sized s) (sheet x) (s .args .engine) (now (s .args .order)) (lent s)
     (short (roomed x)) (unrefused x) (no-cause c)
 
 -- ---- the outline and the network are the sheet's
@@ -131,7 +143,9 @@ returns-2 c =
     (c .before .before .before .before .take-in .ensures .number)
 
 judge-requires : tie.Need-judge-requires
-judge-requires c κs = search needs
+judge-requires c κs =
+    let x = c .before in
+    rw (taken x .outline (x .if2 .left)) (outline-few (numbers (ofBytes (sheet x))) (bytes-accepted (sheet x) (unrefused x)))
 
 same-length-2 : tie.Need-same-length-2
 same-length-2 c = search needs
@@ -166,6 +180,7 @@ settle-requires c κs =
       sheet = numbers (ofBytes (sheet x));
       prepared = prepared b;
       ordered = ordered a;
+      selects = rw (c .before .before .before .step .ensures) (selecting a);
       offers-room = r .offers-room;
       rows-room = rw (b .build .kept .1 .0) (r .rows-room);
       memory-room = rw (taking x .take-in .kept .1 .0) (r .memory-room);

@@ -19,7 +19,7 @@ run-requires c κs =
     let f = c .before .before .before .forward .ensures in
     let m = c .before .before .before .before .start .ensures in
     let s = c .before .before .before .before .before .before .before .before .before in
-    (rw (f, t) (settle-asks _ _ _ _ _ _ (s .pre) _ _ m), s .pre .memory-room)
+    (rw (f, t) (settle-asks _ _ _ _ _ _ _ (s .pre) _ _ m), s .pre .memory-room)
 
 same-length : tie.Need-same-length
 same-length c = search needs
@@ -37,7 +37,7 @@ returns c =
 put-requires : tie.Need-put-requires
 put-requires c κs =
     let s = c .before .before .before .before .before .before .before .before .before .before .before .before .before .before in
-    (fields-few _ _ _ _ _ _ (s .pre), s .pre .offers-room)
+    (fields-few _ _ _ _ _ _ _ (s .pre), s .pre .offers-room)
 
 same-length-2 : tie.Need-same-length-2
 same-length-2 c = search needs

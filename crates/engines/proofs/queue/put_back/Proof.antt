@@ -1,5 +1,5 @@
--- `put_back` adds the neighbours of each changed field, or every field.
-use mathlib.Core.Path.{sym, _∙_}
+-- `put_back` adds the selected neighbours of each changed field, or every selected field.
+use mathlib.Core.Path.{sym}
 use native.Mathlib.Omega.{arith}
 use borrow.Author.Needs.{needs}
 use Rattle.masks.specs.Words.{clear-lt}
@@ -8,24 +8,19 @@ use Rattle.engines.proofs.queue.put_back.Statement.{statement}
 use Rattle.engines.proofs.queue.put_back.Tie as tie
 
 abbrev Inv-loop : tie.InvT-loop
-Inv-loop queue changed net r₀ left₀ r left = Backing (net .fields) (net .hood) queue changed left r
+Inv-loop queue changed selected net r₀ left₀ r left = Backing (net .fields) (net .hood) queue changed left r
 
 abbrev μ-loop : tie.MeasureT-loop
-μ-loop queue changed net r₀ left₀ r left = left
+μ-loop queue changed selected net r₀ left₀ r left = left
 
 returns : tie.Need-returns Inv-loop μ-loop
-returns c = sym (back-none _ _ _ _ _ (c .if1 .taken))
-
-all-fields-requires : tie.Need-all-fields-requires Inv-loop μ-loop
-all-fields-requires c κs = c .before .before .pre .few
+returns c = sym (back-none _ _ _ _ _ _ (c .if1 .taken))
 
 returns-2 : tie.Need-returns-2 Inv-loop μ-loop
-returns-2 c =
-    let test = c .before in
-    c .all-fields .ensures ∙ sym (back-all _ _ _ _ _ (test .before .if1 .left) (let h = test .if2 .taken in omega arith))
+returns-2 c = sym (back-all _ _ _ _ _ _ (c .before .if1 .left) (let h = c .if2 .taken in omega arith))
 
 loop-holds : tie.Need-loop-holds Inv-loop μ-loop
-loop-holds c = backing-start _ _ _ _ (c .before .before .pre)
+loop-holds c = backing-start _ _ _ _ _ (c .before .before .pre)
 
 lowest-bit-requires : tie.Need-lowest-bit-requires Inv-loop μ-loop
 lowest-bit-requires c κs = search needs
@@ -39,7 +34,7 @@ element-copy-out-clear-bit c =
     let loop = lowest .before .before in
     let p = loop .before .before .before .pre in
     let few = p .few in
-    let low = changed-low _ _ _ _ p _ (loop .loop .inv .lefts _ (lowest .lowest-bit .ensures .0 .set)) in
+    let low = changed-low _ _ _ _ _ p _ (loop .loop .inv .lefts _ (lowest .lowest-bit .ensures .0 .set)) in
     omega arith
 
 mul-clear-bit : tie.Need-mul-clear-bit Inv-loop μ-loop
@@ -56,14 +51,14 @@ loop-again c =
     let lowest = c .before .before .before in
     let loop = lowest .before .before in
     rw (c .before .before .clear-bit .ensures, c .clear-bit2 .ensures)
-    (backing-turn _ _ _ _ (loop .before .before .before .pre) _ _ _ (lowest .lowest-bit .ensures .0 .set) (loop .loop .inv))
+    (backing-turn _ _ _ _ _ (loop .before .before .before .pre) _ _ _ (lowest .lowest-bit .ensures .0 .set) (loop .loop .inv))
 
 returns-3 : tie.Need-returns-3 Inv-loop μ-loop
 returns-3 c =
     let loop = c .before in
     let test = loop .before in
-    backing-end _ _ _ _ (test .before .before .pre) _ _ (c .loop-test .left) (loop .loop .inv)
-    ∙ sym (back-others _ _ _ _ _ (test .before .if1 .left) (let h = test .if2 .left in omega arith))
+    rw (backing-end _ _ _ _ _ (test .before .before .pre) _ _ (c .loop-test .left) (loop .loop .inv))
+    (sym (back-others _ _ _ _ _ _ (test .before .if1 .left) (let h = test .if2 .left in omega arith)))
 
 pub put-back-spec : {M : Type 1} → statement M
 put-back-spec =
@@ -72,7 +67,6 @@ put-back-spec =
     Inv-loop
     μ-loop
     returns
-    all-fields-requires
     returns-2
     loop-holds
     lowest-bit-requires

@@ -1,5 +1,5 @@
--- `pass` visits the fields in the lent order.
-use mathlib.Core.Path.{_≡_, refl, _∙_}
+-- `pass` visits the selected fields in the lent order.
+use mathlib.Core.Path.{_≡_, refl, sym, _∙_}
 use mathlib.Core.Bool.{true≢false}
 use Prim.Native.Nat.{_≤_, _-_}
 use borrow.Author.Needs.{needs}
@@ -7,54 +7,60 @@ use lib.ListN.{length}
 use Rattle.network.specs.Tables.{problemOf}
 use Rattle.network.specs.Network.{problemIn}
 use Rattle.visiting.specs.Store.{Store}
-use Rattle.engines.specs.EngineAsks.{order-low, visit-asks, kept-asks}
-use Rattle.engines.specs.Pass.{Passing, passing-start, passing-none, passing-turn, passing-end}
+use Rattle.engines.specs.EngineAsks.{order-low, visit-asks, visit-selected, kept-asks}
+use Rattle.engines.specs.Pass.{Passing, passing-start, passing-skip, passing-none, passing-turn, passing-end}
 use Rattle.engines.proofs.sac.pass.Statement.{statement}
 use Rattle.engines.proofs.sac.pass.Tie as tie
 
 abbrev Inv-loop : tie.InvT-loop
-Inv-loop m₀ known₀ memory₀ remembers order net forward turned n touched₀ q₀ m known memory touched q =
-    (q ≤ n) × Passing (problemIn net forward turned) order (net .hood) m₀ q touched m
+Inv-loop m₀ known₀ memory₀ remembers order selected net forward turned n touched₀ q₀ m known memory touched q =
+    (q ≤ n) × Passing (problemIn net forward turned) order (net .hood) selected m₀ q touched m
     × Store (problemIn net forward turned) (net .hood) m known memory × (length memory ≡ length memory₀)
 
 abbrev μ-loop : tie.MeasureT-loop
-μ-loop m₀ known₀ memory₀ remembers order net forward turned n touched₀ q₀ m known memory touched q = n - q
+μ-loop m₀ known₀ memory₀ remembers order selected net forward turned n touched₀ q₀ m known memory touched q = n - q
 
 loop-holds : tie.Need-loop-holds Inv-loop μ-loop
-loop-holds c = let s = c .before .before .before .before in (search needs, passing-start _ _ _ _ (s .pre .0 .0 .live), s .pre .0 .1, refl)
+loop-holds c = let s = c .before .before .before .before in (search needs, passing-start _ _ _ _ _ (s .pre .0 .0 .live), s .pre .0 .1, refl)
 
 field-at-requires : tie.Need-field-at-requires Inv-loop μ-loop
 field-at-requires c κs =
-    let s = c .before .before .before .before .before .before in
-    order-low _ _ _ _ _ _ (s .pre .1) (s .pre .0 .0 .wired .few) _ (c .loop-test .taken)
+    let p = c .before .before .before .before .before .before .pre in
+    order-low _ _ _ _ _ _ _ (p .1) (p .0 .0 .wired .few) _ (c .loop-test .taken)
 
 add-q : tie.Need-add-q Inv-loop μ-loop
 add-q c = search needs
 
+has-bit-requires : tie.Need-has-bit-requires Inv-loop μ-loop
+has-bit-requires c κs = search needs
+
 visit-requires : tie.Need-visit-requires Inv-loop μ-loop
 visit-requires c κs =
-    let field = c .before .before .before in
+    let field = c .before .before .before .before .before in
     let loop = field .before .before in
-    let s = loop .before .before .before .before .before in (
-      (kept-asks _ _ _ _ (s .pre .0 .0) (loop .loop .inv .1 .kept), loop .loop .inv .2),
-      rw (field .field-at .ensures .0) (visit-asks _ _ _ _ _ _ (s .pre .1) (s .pre .0 .0 .wired .few) _ (field .before .loop-test .taken)),
+    let p = loop .before .before .before .before .before .pre in (
+      (kept-asks _ _ _ _ (p .0 .0) (loop .loop .inv .1 .kept), loop .loop .inv .2),
+      rw (field .field-at .ensures .0) (visit-asks _ _ _ _ _ _ _ (p .1) (p .0 .0 .wired .few) _ (field .before .loop-test .taken)),
     )
 
 same-length : tie.Need-same-length Inv-loop μ-loop
 same-length c =
     let visit = c .before .before .before in
-    visit .visit .kept .1 .1 .0 ∙ visit .before .before .before .before .before .before .loop .inv .3
+    visit .visit .kept .1 .1 .0 ∙ visit .before .before .before .before .before .before .before .before .loop .inv .3
 
 returns : tie.Need-returns Inv-loop μ-loop
 unfolding problemOf
 returns c =
     let visit = c .before .before .before in
-    let field = visit .before .before .before .before in
+    let test = visit .before .before .before .before in
+    let field = test .before .before in
     let loop = field .before .before in
-    let s = loop .before .before .before .before .before in
-    let low = visit-asks _ _ _ _ _ _ (s .pre .1) (s .pre .0 .0 .wired .few) _ (field .before .loop-test .taken) .0 in
-    let visited = rw (field .field-at .ensures .0) at (visit .visit .ensures .0) in
-    (passing-none _ _ _ _ _ _ _ (loop .loop .inv .1) low _ _ _ visited (c .if1 .taken) _, λ e. absurd (true≢false e))
+    let p = loop .before .before .before .before .before .pre in
+    let e = field .field-at .ensures .0 in
+    let on = rw e at (sym (test .before .has-bit .ensures) ∙ test .if1 .taken) in
+    let in-mask = visit-selected _ _ _ _ _ _ _ (p .1) (p .0 .0 .wired .few) _ (field .before .loop-test .taken) on in
+    let visited = rw e at (visit .visit .ensures .0) in
+    (passing-none _ _ _ _ _ _ _ _ (loop .loop .inv .1) in-mask _ _ _ visited (c .if2 .taken) _, λ z. absurd (true≢false z))
 
 loop-less : tie.Need-loop-less Inv-loop μ-loop
 loop-less c = search needs
@@ -63,16 +69,28 @@ loop-again : tie.Need-loop-again Inv-loop μ-loop
 unfolding problemOf
 loop-again c =
     let visit = c .before .before .before .before in
-    let field = visit .before .before .before .before in
+    let test = visit .before .before .before .before in
+    let field = test .before .before in
     let loop = field .before .before in
-    let s = loop .before .before .before .before .before in
-    let low = visit-asks _ _ _ _ _ _ (s .pre .1) (s .pre .0 .0 .wired .few) _ (field .before .loop-test .taken) .0 in
-    let visited = rw (field .field-at .ensures .0) at (visit .visit .ensures .0) in (
+    let p = loop .before .before .before .before .before .pre in
+    let e = field .field-at .ensures .0 in
+    let on = rw e at (sym (test .before .has-bit .ensures) ∙ test .if1 .taken) in
+    let in-mask = visit-selected _ _ _ _ _ _ _ (p .1) (p .0 .0 .wired .few) _ (field .before .loop-test .taken) on in
+    let visited = rw e at (visit .visit .ensures .0) in (
       search needs,
-      passing-turn _ _ _ _ _ _ _ (loop .loop .inv .1) low _ _ _ visited (c .before .if1 .left),
-      visit .visit .ensures .1 (c .before .if1 .left),
+      passing-turn _ _ _ _ _ _ _ _ (loop .loop .inv .1) in-mask _ _ _ visited (c .before .if2 .left),
+      visit .visit .ensures .1 (c .before .if2 .left),
       visit .visit .kept .1 .1 .0 ∙ loop .loop .inv .3,
     )
+
+loop-less-2 : tie.Need-loop-less-2 Inv-loop μ-loop
+loop-less-2 c = search needs
+
+loop-again-2 : tie.Need-loop-again-2 Inv-loop μ-loop
+loop-again-2 c =
+    let i = c .before .before .before .before .loop .inv in
+    let off = rw (c .before .has-bit .ensures, c .before .before .field-at .ensures .0) at (c .if1 .left) in
+    (search needs, passing-skip _ _ _ _ _ _ _ _ (i .1) off, i .2, i .3)
 
 same-length-2 : tie.Need-same-length-2 Inv-loop μ-loop
 same-length-2 c = c .before .loop .inv .3
@@ -82,7 +100,7 @@ unfolding problemOf
 returns-2 c =
     let loop = c .before in
     let p = loop .before .before .before .before .before .pre in
-    (passing-end _ _ _ _ _ _ _ (p .1 .visits) (c .loop-test .left) (loop .loop .inv .1), λ _. loop .loop .inv .2)
+    (passing-end _ _ _ _ _ _ _ _ (p .1 .visits) (c .loop-test .left) (loop .loop .inv .1), λ _. loop .loop .inv .2)
 
 pub pass-spec : {M : Type 1} → statement M
 pass-spec =
@@ -93,10 +111,13 @@ pass-spec =
     loop-holds
     field-at-requires
     add-q
+    has-bit-requires
     visit-requires
     same-length
     returns
     loop-less
     loop-again
+    loop-less-2
+    loop-again-2
     same-length-2
     returns-2)

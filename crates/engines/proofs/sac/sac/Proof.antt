@@ -12,24 +12,24 @@ use Rattle.engines.proofs.sac.sac.Statement.{statement}
 use Rattle.engines.proofs.sac.sac.Tie as tie
 
 abbrev Inv-loop : tie.InvT-loop
-Inv-loop m₀ memory₀ remembers order net forward turned known₀ m memory known =
-    ((touched : ℕ) × Kept (problemIn net forward turned) (net .hood) m₀ touched m)
+Inv-loop m₀ memory₀ remembers order selected net forward turned known₀ m memory known =
+    ((touched : ℕ) × Kept (problemIn net forward turned) (net .hood) selected m₀ touched m)
     × Store (problemIn net forward turned) (net .hood) m known memory × (length memory ≡ length memory₀)
 
 abbrev μ-loop : tie.MeasureT-loop
-μ-loop m₀ memory₀ remembers order net forward turned known₀ m memory known = count m
+μ-loop m₀ memory₀ remembers order selected net forward turned known₀ m memory known = count m
 
 begin-requires : tie.Need-begin-requires Inv-loop μ-loop
 begin-requires c κs = c .before .before .before .before .before .pre .0 .0
 
 returns : tie.Need-returns Inv-loop μ-loop
-returns c = begun-engine _ _ _ _ (rw (c .if1 .taken) at (c .before .begin .ensures))
+returns c = begun-engine _ _ _ _ _ (rw (c .if1 .taken) at (c .before .begin .ensures))
 
 loop-holds : tie.Need-loop-holds Inv-loop μ-loop
 loop-holds c =
     let begun = c .before in
     let p = begun .before .before .before .before .before .before .pre in
-    ((0, kept-start _ _ _ (begun .begin .ensures .live (c .if1 .left))), store-start _ _ _ _ (p .1), refl)
+    ((0, kept-start _ _ _ _ (begun .begin .ensures .live (c .if1 .left))), store-start _ _ _ _ (p .1), refl)
 
 pass-requires : tie.Need-pass-requires Inv-loop μ-loop
 pass-requires c κs =
@@ -48,7 +48,7 @@ returns-2 c =
     let pass = c .before .before .before in
     let loop = pass .before .before .before .before in
     let begun = rw (loop .before .if1 .left) at (loop .before .before .begin .ensures) in
-    engine-none _ _ _ _ begun (kept-wiped _ (loop .loop .inv .0 .1) (pass .pass .ensures .0 .none (c .if2 .taken)))
+    engine-none _ _ _ _ _ begun (kept-wiped _ _ _ (loop .loop .inv .0 .1) (pass .pass .ensures .0 .none (c .if2 .taken)))
 
 same-length-2 : tie.Need-same-length-2 Inv-loop μ-loop
 same-length-2 c =
@@ -62,7 +62,7 @@ returns-3 c =
     let begun = rw (loop .before .if1 .left) at (loop .before .before .begin .ensures) in
     let p = pass .pass .ensures .0 in
     let e = c .before .before .if2 .left in
-    engine-done _ _ _ _ begun (kept-then _ (loop .loop .inv .0 .1) (p .kept e)) (p .done e (c .if3 .taken))
+    engine-done _ _ _ _ _ begun (kept-then _ _ _ (loop .loop .inv .0 .1) (p .kept e)) (p .done e (c .if3 .taken))
 
 loop-less : tie.Need-loop-less Inv-loop μ-loop
 loop-less c =
@@ -73,7 +73,7 @@ loop-again : tie.Need-loop-again Inv-loop μ-loop
 loop-again c =
     let pass = c .before .before .before .before .before in
     let i = pass .before .before .before .before .loop .inv in (
-      (_, kept-then _ (i .0 .1) (pass .pass .ensures .0 .kept (c .before .before .if2 .left))),
+      (_, kept-then _ _ _ (i .0 .1) (pass .pass .ensures .0 .kept (c .before .before .if2 .left))),
       pass .pass .ensures .1 (c .before .before .if2 .left),
       pass .pass .kept .1 .1 .0 ∙ i .2,
     )

@@ -2,7 +2,7 @@ use mathlib.Core.Path.{_≡_, sym, _∙_}
 use mathlib.Core.Bool.{Bool, true, false, not}
 use borrow.Author.Tests.{not-true, not-false}
 use Rattle.session.specs.Decisions.{Long}
-use Rattle.session.specs.Form.{ill-choices, ill-strikes, ill-count, ill-events}
+use Rattle.session.specs.Form.{ill-choices, ill-strikes, ill-count, ill-events, ill-selection}
 use borrow.Author.Needs.{needs}
 use Rattle.session.proofs.form.malformed.Statement.{statement}
 use Rattle.session.proofs.form.malformed.Tie as tie
@@ -46,10 +46,23 @@ events-reversible-requires c κs = search needs
 
 returns-4 : tie.Need-returns-4
 returns-4 c =
-    let b = c .before .before in
+    let e = c .before in
+    let b = e .before .before in
     let a = b .before .before in
     ill-events _ _ (long (a .before .before .before .before .before .before)) (yes (a .before .masks-on-sheet .ensures) (a .if1 .left))
-    (yes (b .before .masks-on-sheet2 .ensures) (b .if2 .left)) _ (c .before .if3 .left) (c .events-reversible .ensures)
+    (yes (b .before .masks-on-sheet2 .ensures) (b .if2 .left)) (e .before .if3 .left) (no (e .events-reversible .ensures) (c .if4 .taken))
+
+no-selection-requires : tie.Need-no-selection-requires
+no-selection-requires c κs = search needs
+
+returns-5 : tie.Need-returns-5
+returns-5 c =
+    let e = c .before .before in
+    let b = e .before .before in
+    let a = b .before .before in
+    ill-selection _ _ (long (a .before .before .before .before .before .before)) (yes (a .before .masks-on-sheet .ensures) (a .if1 .left))
+    (yes (b .before .masks-on-sheet2 .ensures) (b .if2 .left)) (e .before .if3 .left) _
+    (yes (e .events-reversible .ensures) (c .before .if4 .left)) (c .no-selection .ensures)
 
 pub malformed-spec : {M : Type 1} → statement M
 malformed-spec =
@@ -61,4 +74,6 @@ malformed-spec =
     returns-2
     returns-3
     events-reversible-requires
-    returns-4)
+    returns-4
+    no-selection-requires
+    returns-5)
