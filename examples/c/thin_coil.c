@@ -1,4 +1,5 @@
-/* The thin coil: a strike, a later choice, and the strike withdrawn. An engine that put back what the strike had removed would show (6, 3) at the end. */
+/* The thin coil: a strike, a later choice, and the strike withdrawn. An engine that put back what the strike had removed would show (6, 3)
+ * at the end. */
 #include "belaykeel.h"
 
 #include <stdio.h>

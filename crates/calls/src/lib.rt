@@ -26,7 +26,7 @@ pub fn decides(kind: u32, field: u32, position: u32) -> Call
     Call::Decide(e)
 }
 
-// The decisions and events are dropped, the selected fields kept in the session, and the sheet's offers shown.
+// The decisions and events are dropped, the mask of selected fields is put into the session, and the sheet's offers are shown.
 pub fn open(
     session: Session,
     sheet: &[u8],

@@ -88,7 +88,7 @@ fn decisions() {
     one(Call::Show, far(), 1);
 }
 
-// Show of a session with a mask of selected fields, by engine 0 and by engine 1: 15 comes before 7.
+// A session with a mask of selected fields: show by engine 0, since 15 comes before 7, then five calls by engine 1.
 fn selects(selected: u32) {
     line::text(b"selected ");
     line::number(selected);

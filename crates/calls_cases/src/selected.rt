@@ -1,4 +1,4 @@
-// The selected fields: what they are kept by, what they leave, and 18.
+// The selected fields: the offers under several masks, masks that 18 refuses, and the calls that leave the mask as it is.
 use super::line;
 use super::run::on_sheet;
 use super::script::play;

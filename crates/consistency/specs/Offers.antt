@@ -24,8 +24,8 @@ use Rattle.consistency.specs.Passing.{PassesOver, passesOver, passesOver
 module _ (P : Problem) where
   -- ---- what the offers are the largest of
 
-  -- Closed over every field, and every setting of a selected field passes its test.
-  pub record Consistent (hood : ℕ → ℕ) (selected : ℕ) (S : List ℕ) : Type 0 where
+  -- Partial consistency (02): closed over every field, and every setting of a selected field passes its test.
+  pub record PartiallyConsistent (hood : ℕ → ℕ) (selected : ℕ) (S : List ℕ) : Type 0 where
     pub shut : Closed P (allFields P) S
     pub passing : (f v : ℕ) → In P selected f → has S f v ≡ true → PassesOver P (hood f) S f v
 
@@ -70,7 +70,7 @@ module _ (P : Problem) where
         stays-by R f v (supported-mono P (allFields P) S R h f v (stays-supported S f v e))
         (λ i. passesOver-mono P (hood f) S R h f v (stays-passes S f v i e))
 
-    all-stay : (S : List ℕ) → AllPass test S ↔ Consistent hood selected S
+    all-stay : (S : List ℕ) → AllPass test S ↔ PartiallyConsistent hood selected S
     all-stay S = (
       λ p. record {
         shut = λ f v e. supported-at P (allFields P) S f v (stays-supported S f v (p f v e));
@@ -80,7 +80,7 @@ module _ (P : Problem) where
           (λ i. passesOver-by P (hood f) S f v (c .passing f v i e)),
     )
 
-  -- ---- the offers: the largest consistent part
+  -- ---- the offers: the largest partially consistent part
 
   unfoldable pub offers : (ℕ → ℕ) → ℕ → List ℕ → List ℕ
   offers hood selected S = largest (stays hood selected) S
@@ -91,17 +91,17 @@ module _ (P : Problem) where
 
   module _ (hood : ℕ → ℕ) (selected : ℕ) where
     abbrev Good : List ℕ → Type 0
-    Good = Consistent hood selected
+    Good = PartiallyConsistent hood selected
 
     abbrev found : List ℕ → List ℕ
     found = offers hood selected
 
-    pub offers-is : (S : List ℕ) → IsLargest (Consistent hood selected) S (offers hood selected S)
+    pub offers-is : (S : List ℕ) → IsLargest (PartiallyConsistent hood selected) S (offers hood selected S)
     unfolding offers
     offers-is S = IsLargest-iff (AllPass (test hood selected)) Good (all-stay hood selected) S _
         (largest-is (test hood selected) (stays-mono hood selected) S)
 
-    pub offers-unique : (S L : List ℕ) → IsLargest (Consistent hood selected) S L → offers hood selected S ≡ L
+    pub offers-unique : (S L : List ℕ) → IsLargest (PartiallyConsistent hood selected) S L → offers hood selected S ≡ L
     offers-unique S L l = IsLargest-unique Good S (found S) L (offers-is S) l
 
     pub offers-mono : (S R : List ℕ) → S ⊆ R → offers hood selected S ⊆ offers hood selected R
@@ -131,14 +131,15 @@ module _ (P : Problem) where
         let c = closing-is P (allFields P) S in
         offers-between S (closing P (allFields P) S) (c .sized) (offers-in-closing S S (offers-is S .inside)) (c .inside)
 
-    -- a consistent part that holds the offers is the offers
-    pub offers-done : (S U : List ℕ) → length U ≡ length S → offers hood selected S ⊆ U → U ⊆ S → Consistent hood selected U
+    -- a partially consistent part that holds the offers is the offers
+    pub offers-done : (S U : List ℕ) → length U ≡ length S → offers hood selected S ⊆ U → U ⊆ S → PartiallyConsistent hood selected U
         → U ≡ offers hood selected S
     unfolding offers
     offers-done S U e h i c = largest-done (test hood selected) (stays-mono hood selected) S U e h i (all-stay hood selected U .1 c)
 
-    -- whatever its order, a run that loses unsupported and failing settings and ends in a consistent set has reached the offers
-    pub offers-run : {S R : List ℕ} → Run (stays hood selected) S R → Consistent hood selected R → R ≡ offers hood selected S
+    -- whatever its order, a run that loses unsupported and failing settings and ends in a partially consistent set has reached
+    -- the offers
+    pub offers-run : {S R : List ℕ} → Run (stays hood selected) S R → PartiallyConsistent hood selected R → R ≡ offers hood selected S
     unfolding offers
     offers-run {R = R} r c = run-largest (test hood selected) (stays-mono hood selected) r (all-stay hood selected R .1 c)
 

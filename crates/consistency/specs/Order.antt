@@ -11,7 +11,7 @@ use Rattle.consistency.specs.Problem.{Problem, In, allFields}
 use Rattle.consistency.specs.Closing.{Closed, closing, closing-is}
 use Rattle.consistency.specs.Neighbourhood.{neighbourhood, neighbourhood-more}
 use Rattle.consistency.specs.Passing.{passing-wider}
-use Rattle.consistency.specs.Offers.{Consistent, offers, offers-is, offers-unique}
+use Rattle.consistency.specs.Offers.{PartiallyConsistent, offers, offers-is, offers-unique}
 
 module _ (P : Problem) where
   -- ---- more selected fields and wider neighbourhoods ask more, so they offer no more
@@ -21,7 +21,7 @@ module _ (P : Problem) where
   Wider selected hood wide = (f : ℕ) → In P selected f → Within (hood f) (wide f)
 
   module _ (hood wide : ℕ → ℕ) (selected more : ℕ) (h : Within selected more) (n : Wider selected hood wide) where
-    consistent-less : (S : List ℕ) → Consistent P wide more S → Consistent P hood selected S
+    consistent-less : (S : List ℕ) → PartiallyConsistent P wide more S → PartiallyConsistent P hood selected S
     consistent-less S c = record {
       shut = c .shut;
       passing = λ f v i e. passing-wider P (hood f) (wide f) (n f i) S f v (c .passing f v (i .0, h f (i .1)) e);
@@ -29,7 +29,7 @@ module _ (P : Problem) where
 
     offers-less : (S : List ℕ) → offers P wide more S ⊆ offers P hood selected S
     offers-less S =
-        IsLargest-stricter (Consistent P wide more) (Consistent P hood selected) consistent-less S
+        IsLargest-stricter (PartiallyConsistent P wide more) (PartiallyConsistent P hood selected) consistent-less S
         (offers P wide more S) (offers P hood selected S) (offers-is P wide more S) (offers-is P hood selected S)
 
   -- THE THEOREM: a selection that includes another offers no setting that the other doesn't (02, request 7).
@@ -40,7 +40,7 @@ module _ (P : Problem) where
   -- with no field selected the offers are the closing
   pub offers-none-selected : (hood : ℕ → ℕ) (S : List ℕ) → offers P hood 0 S ≡ closing P (allFields P) S
   offers-none-selected hood S =
-      offers-unique P hood 0 S (closing P (allFields P) S) (IsLargest-iff (Closed P (allFields P)) (Consistent P hood 0)
+      offers-unique P hood 0 S (closing P (allFields P) S) (IsLargest-iff (Closed P (allFields P)) (PartiallyConsistent P hood 0)
       (λ R. (λ c. record { shut = c; passing = λ f v i e. absurd (never (i .1) (bit-of-zero f)) }, λ c. c .shut)) S _
       (closing-is P (allFields P) S))
 

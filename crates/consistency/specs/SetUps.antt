@@ -11,7 +11,7 @@ use Rattle.masks.specs.Settings.{cut-by, empty, empty-at}
 use Rattle.consistency.specs.Problem.{Problem, SetUp}
 use Rattle.consistency.specs.Closing.{Closed, closing, closing-is}
 use Rattle.consistency.specs.Passing.{PassesOver, witness-by}
-use Rattle.consistency.specs.Offers.{Consistent, offers, offers-is, wipedOut, wipedOut-at}
+use Rattle.consistency.specs.Offers.{PartiallyConsistent, offers, offers-is, wipedOut, wipedOut-at}
 
 module _ (P : Problem) (S : List ℕ) (a : ℕ → ℕ) (up : SetUp P S a) where
   chosen : ℕ → ℕ → Bool
@@ -53,7 +53,7 @@ module _ (P : Problem) (S : List ℕ) (a : ℕ → ℕ) (up : SetUp P S a) where
 
   -- whatever is selected
   module _ (hood : ℕ → ℕ) (selected : ℕ) where
-    picked-consistent : Consistent P hood selected picked
+    picked-consistent : PartiallyConsistent P hood selected picked
     picked-consistent = record { shut = picked-closed _; passing = λ f v i e. picked-passes (hood f) f v e }
 
     pub set-up-offered : (f : ℕ) → f < P .fields → has (offers P hood selected S) f (a f) ≡ true

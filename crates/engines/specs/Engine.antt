@@ -1,4 +1,4 @@
--- What every engine asks and promises, how it starts, and one pass over the fields. Assumes nothing.
+-- What every engine asks and promises, how it starts, what holds between two visits, and how it ends. Assumes nothing.
 use mathlib.Core.Path.{_≡_, refl, sym, ap, _∙_}
 use mathlib.Core.Bool.{Bool, true, false, true≢false}
 use mathlib.Core.List.{List}
@@ -14,7 +14,7 @@ use Rattle.consistency.specs.Largest.{IsLargest-self}
 use Rattle.consistency.specs.Problem.{Problem, In, OnFields, allFields, in-allFields}
 use Rattle.consistency.specs.Closing.{closing-is}
 use Rattle.consistency.specs.Passing.{NoneEmpty, noneEmpty-at, passesOver, passesOver-at}
-use Rattle.consistency.specs.Offers.{Consistent, offers, offers-is, offers-unique, offers-in-closing, offers-of-closing}
+use Rattle.consistency.specs.Offers.{PartiallyConsistent, offers, offers-is, offers-unique, offers-in-closing, offers-of-closing}
 use Rattle.consistency.specs.Offers.{wipedOut, wipedOut-by}
 use Rattle.closing.specs.Shrunk.{Shrunk, shrunk-none, shrunk-then, or-within}
 use Rattle.closing.specs.Close.{Ready, Closes}
@@ -105,9 +105,9 @@ module _ (P : Problem) where
         → Engine hood selected S false R
     unfolding wipedOut hoodIn
     offered-done S R e l p =
-        let c : Consistent P (hoodIn hood) selected R =
+        let c : PartiallyConsistent P (hoodIn hood) selected R =
         record { shut = l .shut; passing = λ f v i h. passesOver-at P (getD hood f 0) R f v (p f i v h) } in
-        let own = IsLargest-self (Consistent P (hoodIn hood) selected) R c in
+        let own = IsLargest-self (PartiallyConsistent P (hoodIn hood) selected) R c in
         let q : R ≡ offered S = sym (offers-unique P (hoodIn hood) selected R R own) ∙ e in
         record {
           wipes = sym (ap (someEmpty (P .fields)) (sym q) ∙ not-so (someEmpty (P .fields) R) (λ w.

@@ -1,4 +1,4 @@
--- One pass over the fields in the lent order, and engine 1. Assumes nothing.
+-- One pass over the selected fields in the lent order. Assumes nothing.
 use mathlib.Core.Path.{_≡_, sym, ap, _∙_}
 use mathlib.Core.Logic.{⊎-elim}
 use mathlib.Core.Bool.{Bool, true, false, true≢false}

@@ -1,5 +1,5 @@
-// The causes of a refusal by what is judged: the session, the mask of selected fields, the engine, the setting that a call names, the order,
-// the change of the decisions. Each function gives the number of the first cause that applies, 0 where none does.
+// The causes of a refusal by what is judged: the session, the mask of selected fields, the engine, the setting that a call names, the
+// order, the change of the decisions. Each function gives the number of the first cause that applies, 0 where none does.
 ghost use mathlib.Core.Path.{_≡_};
 ghost use Prim.Native.Nat.{_≤_};
 ghost use Rattle.limits.specs.Limits.{mostFields};

@@ -88,7 +88,8 @@ strange kind = record { decisions = []; events = happened kind ∷ []; selected 
 -- Sheet D has two fields and `narrow` has one: 3 and 1 select all.
 pub order-of-causes :
     -- 6 before 1, and 1 before 15 and 18
-    (number (noSheet 23) Show off ≡ 6) × (number (noSheet 24) Show off ≡ 1) × (number (noSheet 24) (Open 0) off ≡ 1)
+    (number (noSheet 23) Show off ≡ 6) × (number (noSheet 24) Show off ≡ 1) × (number (noSheet 23) (Open 0) off ≡ 6)
+    × (number (noSheet 24) (Open 0) off ≡ 1)
     -- 15 before 7; open skips it
     × (number (givenD 0 rising) Show off ≡ 15) × (number (givenD 0 rising) Show unheld ≡ 15)
     × (number (givenD 0 rising) Back (strange 0) ≡ 15) × (number (givenD 0 rising) Back (strange 5) ≡ 15)
@@ -115,11 +116,12 @@ pub order-of-causes :
     × (number (givenD 1 rising) (decides CHOOSE 0 0) full ≡ 12) × (number (givenD 1 rising) (decides CHOOSE 0 0) (opened 3) ≡ 14)
     × (number (givenD 1 rising) Back full ≡ 0)
 unfolding pastOf wipedOut offers stays isSelected passesOver noneEmpty neighbourhood fieldsWithin widen allFields closing supported
-    supportedBy partner largest sweeps sweep someEmpty empty cut same count only countBits countIn someBit someIn keepBits keepIn maskOf bit has pad
-    someBelow allBelow tabulate occurrences number first causes judged malformed noEngine isOrder spaceShort noSelection reversible
-    allOnSheet onSheet inForce sameDecision without changeBy backed step otherChosen starts startSet offersOf wiped outlineOf refusalFrom numbers items
-    numberAt groups pick advance fieldStart ruleStart sheetProblem runs pairs
+    supportedBy partner largest sweeps sweep someEmpty empty cut same count only countBits countIn someBit someIn keepBits keepIn maskOf
+    bit has pad someBelow allBelow tabulate occurrences number first causes judged malformed noEngine isOrder spaceShort noSelection
+    reversible allOnSheet onSheet inForce sameDecision without changeBy backed step otherChosen starts startSet offersOf wiped outlineOf
+    refusalFrom numbers items numberAt groups pick advance fieldStart ruleStart sheetProblem runs pairs
 order-of-causes = (
+  refl,
   refl,
   refl,
   refl,

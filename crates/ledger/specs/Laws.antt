@@ -1,5 +1,5 @@
--- Laws of the ledger: of decisions as a set, and that nothing depends on more than which decisions are in force and on the events.
--- Assumes nothing.
+-- Laws of the ledger: of decisions as a set, and that nothing depends on more than which decisions are in force, on the events and on the
+-- selected fields. Assumes nothing.
 use mathlib.Core.Path.{_≡_, refl, sym, ap, ap₂, _∙_, fun-ext}
 use mathlib.Core.Logic.{⊎-elim}
 use mathlib.Core.Bool.{Bool, true, false, not, _&&_, _||_}

@@ -1,5 +1,4 @@
--- The selected fields (02, request 7): which calls set the mask, which masks 18 lets pass, and how the offers depend on it. Assumes
--- nothing.
+-- The selected fields (02, request 7): which calls set the mask, which masks 18 lets pass, and the offers under it. Assumes nothing.
 use mathlib.Core.Path.{_≡_, refl, ap, _∙_}
 use mathlib.Core.Logic.{⊎-elim}
 use mathlib.Core.Bool.{Bool, true, false, not}
@@ -13,7 +12,9 @@ use Rattle.masks.specs.Masks.{keepBits, someBit-by}
 use Rattle.masks.specs.Sets.{has, _⊆_}
 use Rattle.masks.specs.Pick.{pick, pick-true, pick-false}
 use Rattle.consistency.specs.Problem.{Problem, OnFields, allFields}
+use Rattle.consistency.specs.Largest.{IsLargest}
 use Rattle.consistency.specs.Neighbourhood.{neighbourhood}
+use Rattle.consistency.specs.Offers.{PartiallyConsistent, offers-is}
 use Rattle.consistency.specs.AllSelected.{offersAllTested, offers-all-selected}
 use Rattle.consistency.specs.Order.{offers-more-selected}
 use Rattle.sheet.specs.Sources.{Accepted}
@@ -98,6 +99,13 @@ module _ (xs : List ℕ) where
     where
       field : (f : ℕ) → f < outlineOf xs .fields → f < sheetProblem xs .fields
       field f i = unfold sheetProblem in (unfold outlineOf in i)
+
+  -- The ledger's offers: the largest part of its start set that is closed and in which every setting of a selected field passes its test.
+  pub offersOf-is : (l : Ledger)
+      → IsLargest (PartiallyConsistent (sheetProblem xs) (neighbourhood (sheetProblem xs) (reachOf xs)) (l .selected))
+      (startSet (outlineOf xs) (l .decisions)) (offersOf xs l)
+  unfolding offersOf
+  offersOf-is l = offers-is P (neighbourhood P (reachOf xs)) (l .selected) (start l)
 
   -- THE THEOREM: with every field selected the ledger's offers are those of 01.
   pub all-selected : Accepted xs → (l : Ledger) → Within (allFields (sheetProblem xs)) (l .selected)

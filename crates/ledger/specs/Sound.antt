@@ -1,5 +1,5 @@
--- A ledger that began with an open is never malformed: every accepted call keeps it so, and so no call answers 15. And no call answers 8,
--- whatever the ledger holds. Assumes nothing.
+-- A ledger that began with an open is never malformed: every accepted call keeps it so, and so no call answers 15. And whatever the ledger
+-- holds, no call answers 8, and none but open answers 18. Assumes nothing.
 use mathlib.Core.Path.{_≡_, refl, sym, ap, _∙_}
 use mathlib.Core.Logic.{⊎-elim}
 use mathlib.Core.Bool.{Bool, true, false, not, _&&_, _||_, and-false}

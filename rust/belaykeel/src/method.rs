@@ -7,7 +7,7 @@ use crate::sheet::Sheet;
 #[derive(Clone, Copy, Debug, Default, PartialEq, Eq, Hash)]
 #[repr(u32)]
 pub enum Engine {
-    /// SAC-1: passes over all fields until one changes nothing.
+    /// SAC-1: passes over the selected fields until one changes nothing.
     #[default]
     Sac1 = 1,
     /// SAC-2: as SAC-1, but a setting that passed is tested again only when some of what its test left in the neighbourhood has gone.

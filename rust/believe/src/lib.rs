@@ -34,7 +34,7 @@ const STATEMENTS: &[(&str, &str)] = &[
     ("cases/specs/Table.antt", "cases-hold"),
     ("ledger/specs/Laws.antt", "alike-offers"),
     ("ledger/specs/Theorems.antt", "back-undoes withdrawn-leaves set-up-kept set-up-shown"),
-    ("ledger/specs/Selection.antt", "open-selects others-keep refused-keeps all-selected more-selected"),
+    ("ledger/specs/Selection.antt", "open-selects others-keep refused-keeps offersOf-is all-selected more-selected"),
     ("ledger/specs/Sound.antt", "never-18"),
     ("accepted/specs/Theorems.antt", "accepted-right right-is-accepted right-retired writable-right right-is-writable"),
     ("accepted/specs/Theorems.antt", "exact encoded-read read-written read-refused written-read"),

@@ -60,7 +60,7 @@ pub enum Fault {
     ClosesSelected,
     /// After a removal only the selected fields and those one rule away from one are closed again.
     ClosesNearby,
-    /// The queue puts back fields that are not selected.
+    /// Once a setting was removed, the queue puts back every field, selected or not.
     PutsBackAll,
     /// Show tests every field.
     ShowTestsAll,

@@ -1,4 +1,4 @@
--- `queued` makes rounds until the queue is empty: then every setting passes.
+-- `queued` makes rounds until the queue is empty: then every setting of a selected field passes.
 use mathlib.Core.Path.{_≡_, refl, ap, _∙_}
 use Prim.Native.Nat.{ℕ, _+_, _*_, _^_}
 use lib.ListN.{length}

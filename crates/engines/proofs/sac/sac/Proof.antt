@@ -1,4 +1,4 @@
--- `sac` passes over the fields until nothing changes: then every setting passes.
+-- `sac` passes over the selected fields until nothing changes: then every setting of a selected field passes.
 use mathlib.Core.Path.{_≡_, refl, _∙_}
 use Prim.Native.Nat.{ℕ}
 use lib.ListN.{length}
