@@ -6,7 +6,7 @@ use mathlib.Core.Bool.{Bool, true, false, not, _&&_, _||_}
 use mathlib.Core.List.{List, [], _∷_}
 use Prim.Native.Nat.{ℕ}
 use lib.Dec.{eqb}
-use borrow.Author.Tests.{eqb-true, eq-eqb}
+use borrow.Author.Tests.{eqb-true, eq-eqb, ne-eqb}
 use Rattle.masks.specs.Tests.{never, bool-cases, iff-eq, and-l, and-r, and-by, or-l, or-r, or-at}
 use Rattle.masks.specs.Masks.{keepBits, someBit}
 use Rattle.masks.specs.Pick.{pick, pick-true, pick-false}
@@ -25,6 +25,17 @@ use Rattle.ledger.specs.Ledger.{Decision, choice, strike, Change, adds, 
 use Rattle.ledger.specs.Ledger.{with, without, applied, reverted, backed, step, settings, otherChosen, starts, startSet, offersOf}
 use Rattle.ledger.specs.Ledger.{wiped, Given, onSheet, allOnSheet, revertible, reversible, malformed, sessionCauses}
 use Rattle.ledger.specs.Ledger.{addedAgain, withdrawnUnheld, stepCauses, judged, causes, number, after}
+
+-- ---- the ledger after a call: its step where it is accepted, and as it was where it is refused
+
+module _ (g : Given) (c : Call) (l : Ledger) where
+  pub accepted-steps : number g c l ≡ 0 → after g c l ≡ step c l
+  unfolding after
+  accepted-steps e = pick-true _ _ _ (eq-eqb _ 0 e)
+
+  pub refused-keeps : (number g c l ≡ 0 → ⊥) → after g c l ≡ l
+  unfolding after
+  refused-keeps n = pick-false _ _ _ (ne-eqb _ 0 n)
 
 -- ---- the same decision
 

@@ -1,16 +1,15 @@
 -- The selected fields (02, request 7): which calls set the mask, which masks 18 lets pass, and the offers under it. Assumes nothing.
 use mathlib.Core.Path.{_≡_, refl, ap, _∙_}
 use mathlib.Core.Logic.{⊎-elim}
-use mathlib.Core.Bool.{Bool, true, false, not}
+use mathlib.Core.Bool.{true, false, not}
 use mathlib.Core.List.{List, [], _∷_}
 use Prim.Native.Nat.{ℕ, _<_}
 use lib.Dec.{eqb, ltb}
-use borrow.Author.Tests.{eqb-false, eq-eqb, ne-eqb, ltb-true, ltb-false}
-use Rattle.masks.specs.Tests.{never, bool-cases}
+use borrow.Author.Tests.{eqb-false, ltb-true, ltb-false}
+use Rattle.masks.specs.Tests.{never, bool-cases, eq-cases}
 use Rattle.masks.specs.Bits.{bit, bit-of-zero, Within}
 use Rattle.masks.specs.Masks.{keepBits, someBit-by}
 use Rattle.masks.specs.Sets.{has, _⊆_}
-use Rattle.masks.specs.Pick.{pick, pick-true, pick-false}
 use Rattle.consistency.specs.Problem.{Problem, OnFields, allFields}
 use Rattle.consistency.specs.Largest.{IsLargest}
 use Rattle.consistency.specs.Neighbourhood.{neighbourhood}
@@ -29,7 +28,7 @@ use Rattle.ledger.specs.declared.Call.{Call}
 use Rattle.ledger.specs.declared.Call.the-variants.{Open, Show, Decide, Back, CoilOn}
 use Rattle.ledger.specs.Ledger.{Decision, Ledger, backed, step, settings, starts, startSet, offersOf, Given, noSelection}
 use Rattle.ledger.specs.Ledger.{number, after}
-use Rattle.ledger.specs.Laws.{Alike, alike-start}
+use Rattle.ledger.specs.Laws.{accepted-steps, refused-keeps, Alike, alike-start}
 use Rattle.ledger.specs.Judging.{or-left, or-right}
 
 -- ---- which calls set the mask
@@ -37,13 +36,8 @@ use Rattle.ledger.specs.Judging.{or-left, or-right}
 -- an accepted open
 pub open-selects : (g : Given) (selected : ℕ) (l : Ledger) → number g (Open selected) l ≡ 0
     → after g (Open selected) l .selected ≡ selected
-unfolding after step
-open-selects g selected l e = rw (pick-true _ (step (Open selected) l) l (eq-eqb _ 0 e)) refl
-
--- a refused call changes nothing
-pub refused-keeps : (g : Given) (c : Call) (l : Ledger) → (number g c l ≡ 0 → ⊥) → after g c l ≡ l
-unfolding after
-refused-keeps g c l n = pick-false _ _ _ (ne-eqb _ 0 n)
+unfolding step
+open-selects g selected l e = ap (λ (m : Ledger). m .selected) (accepted-steps g (Open selected) l e)
 
 backed-keeps : (es : List Event) (ds : List Decision) (selected : ℕ) → backed es ds selected .selected ≡ selected
 unfolding backed
@@ -60,12 +54,10 @@ step-keeps CoilOn l n = refl
 
 -- a call but open leaves it, accepted or refused
 pub others-keep : (g : Given) (c : Call) (l : Ledger) → ((selected : ℕ) → c ≡ Open selected → ⊥) → after g c l .selected ≡ l .selected
-unfolding after
-others-keep g c l n = by (eqb (number g c l) 0)
-  where
-    by : (t : Bool) → pick t (step c l) l .selected ≡ l .selected
-    by true = unfold pick in step-keeps c l n
-    by false = unfold pick in refl
+others-keep g c l n = ⊎-elim
+    (λ e. ap (λ (m : Ledger). m .selected) (accepted-steps g c l e) ∙ step-keeps c l n)
+    (λ e. ap (λ (m : Ledger). m .selected) (refused-keeps g c l e))
+    (eq-cases (number g c l) 0)
 
 -- ---- a mask that 18 does not refuse: some field, and fields of the sheet only
 

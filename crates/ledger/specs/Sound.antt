@@ -6,13 +6,11 @@ use mathlib.Core.Bool.{Bool, true, false, not, _&&_, _||_, and-false}
 use mathlib.Core.List.{List, [], _∷_}
 use Prim.Native.Nat.{ℕ, _<_}
 use native.Mathlib.Omega.{arith}
-use lib.Dec.{eqb}
 use lib.ListN.{length}
-use borrow.Author.Tests.{eqb-true, eqb-false}
+use borrow.Author.Tests.{eqb-false}
 use Rattle.limits.specs.Limits.{mostEvents}
 use Rattle.limits.specs.Refusals.{TOO-NARROW, MALFORMED, NO-SELECTION}
-use Rattle.masks.specs.Tests.{never, bool-cases, and-l, and-r, and-by, or-l}
-use Rattle.masks.specs.Pick.{pick-true, pick-false}
+use Rattle.masks.specs.Tests.{never, eq-cases, and-l, and-r, and-by, or-l}
 use Rattle.sheet.specs.Sources.{numbers, ofBytes}
 use Rattle.accepted.specs.declared.outline.Outline.{Outline}
 use Rattle.accepted.specs.Outline.{outlineOf}
@@ -22,6 +20,7 @@ use Rattle.ledger.specs.declared.Call.the-variants.{Open, Show, Decide, 
 use Rattle.ledger.specs.Ledger.{Decision, Change, adds, withdraws, neither, changeOf, Ledger, sameDecision, inForce, with, without}
 use Rattle.ledger.specs.Ledger.{applied, reverted, opened, backed, step, Given, onSheet, allOnSheet, revertible, reversible}
 use Rattle.ledger.specs.Ledger.{noSelection, malformed, offSheet, addedAgain, withdrawnUnheld, number, after}
+use Rattle.ledger.specs.Laws.{accepted-steps, refused-keeps}
 use Rattle.ledger.specs.Laws.{decision-at, decision-self, inForce-with, inForce-without, allOn-at, allOn-by, Alike, alike-reversible}
 use Rattle.ledger.specs.Judging.{Clear, none-applies, not-back, WellFormed, well-formed, formed-by, number-avoids}
 
@@ -152,11 +151,9 @@ module _ (g : Given) (l : Ledger) where
 
   pub after-formed : (c : Call) → malformed o l ≡ false → malformed o (after g c l) ≡ false
   after-formed c f = ⊎-elim
-      (λ (e : eqb (number g c l) 0 ≡ true).
-      unfold after in rw (pick-true (eqb (number g c l) 0) (step c l) l e) (step-formed c (eqb-true _ 0 e) f))
-      (λ (e : eqb (number g c l) 0 ≡ false).
-      unfold after in rw (pick-false (eqb (number g c l) 0) (step c l) l e) f)
-      (bool-cases (eqb (number g c l) 0))
+      (λ e. rw (accepted-steps g c l e) (step-formed c e f))
+      (λ e. rw (refused-keeps g c l e) f)
+      (eq-cases (number g c l) 0)
 
   -- A call on a ledger that is not malformed does not answer 15.
   pub never-15 : (c : Call) → malformed o l ≡ false → number g c l ≡ MALFORMED → ⊥

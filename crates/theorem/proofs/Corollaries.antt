@@ -6,15 +6,13 @@ use mathlib.Core.List.{List, [], _∷_}
 use Prim.Native.Nat.{ℕ}
 use native.Mathlib.Omega.{arith}
 use lib.ListN.{length, take}
-use borrow.Author.Tests.{eq-eqb}
-use Rattle.masks.specs.Pick.{pick-true}
 use Rattle.sheet.specs.Sources.{numbers, ofBytes}
 use Rattle.limits.specs.Refusals.{MALFORMED}
 use Rattle.accepted.specs.Outline.{outlineOf}
 use Rattle.ledger.specs.declared.Event.{Event}
 use Rattle.ledger.specs.declared.Call.{Call}
 use Rattle.ledger.specs.Ledger.{Ledger, Given, step, offersOf, malformed, number, after}
-use Rattle.ledger.specs.Laws.{SameLedger, alike-offers}
+use Rattle.ledger.specs.Laws.{accepted-steps, SameLedger, alike-offers}
 use Rattle.ledger.specs.Judging.{Clear, none-applies}
 use Rattle.ledger.specs.Sound.{opened-formed, after-formed, never-15}
 use Rattle.ledger.specs.Theorems.{back-undoes, Admitted, lending, engine-and-order}
@@ -25,11 +23,6 @@ use Rattle.theorem.specs.Turns.{Turn, Answered}
 use Rattle.theorem.specs.CallAgrees.{call-number}
 use Rattle.theorem.specs.Follows.{givenTo, numbersOf, fields, next, Agrees, Follows, ends, goes}
 use Rattle.theorem.proofs.Sequence.{Calls, none-yet, then, demand-3}
-
--- the ledger after an accepted call is its step
-after-step : (g : Given) (c : Call) (l : Ledger) → number g c l ≡ 0 → after g c l ≡ step c l
-unfolding after
-after-step g c l k = pick-true _ _ _ (eq-eqb _ 0 k)
 
 -- ---- no call of such a sequence answers 15
 
@@ -53,7 +46,7 @@ opened-so : (g : Given) (l : Ledger) (c : Call) (selected : ℕ) → c ≡ Call.
 opened-so g l c selected o k =
     let clear : Clear (outlineOf (numbers (ofBytes (g .sheet)))) (Call.Open selected) (g .engine) (g .order) l =
     rw o at (none-applies g c l k) in
-    rw (after-step g c l k, o)
+    rw (accepted-steps g c l k, o)
     (unfold step in opened-formed (outlineOf (numbers (ofBytes (g .sheet)))) selected (clear .of-session .0))
 
 pub no-15 : (sheet : List ℕ) (s : Session) (t : Turn) (ts : List Turn) (selected : ℕ) → t .call ≡ Call.Open selected
@@ -103,7 +96,7 @@ engine-order-spaces t u a b s p q =
 -- ---- back after a change shows the page before it
 
 next-is-step : (l : Ledger) (t : Turn) → Agrees l t → t .number ≡ 0 → next l t ≡ step (t .call) l
-next-is-step l t a n = after-step (givenTo t) (t .call) l (sym (a .numbered) ∙ n)
+next-is-step l t a n = accepted-steps (givenTo t) (t .call) l (sym (a .numbered) ∙ n)
 
 pub back-shows-again : (l : Ledger) (t u : Turn) → Agrees l t → Agrees (next l t) u
     → (e : Event) → t .call ≡ Call.Decide e → u .call ≡ Call.Back → t .number ≡ 0 → u .number ≡ 0

@@ -4,11 +4,9 @@
 use mathlib.Core.Path.{_≡_, refl, sym, ap, _∙_}
 use mathlib.Core.List.{List, [], _∷_}
 use Prim.Native.Nat.{ℕ}
-use borrow.Author.Tests.{eq-eqb}
-use Rattle.masks.specs.Pick.{pick-true}
 use Rattle.ledger.specs.declared.Call.{Call}
 use Rattle.ledger.specs.Ledger.{Ledger, Given, inForce, offersOf, step, number, causes, judged, after}
-use Rattle.ledger.specs.Laws.{SameLedger, same-ledger}
+use Rattle.ledger.specs.Laws.{accepted-steps, SameLedger, same-ledger}
 use Rattle.session.specs.declared.Session.{Session}
 use Rattle.session.specs.View.{view}
 use Rattle.theorem.specs.Turns.{Turn, Answered}
@@ -45,8 +43,7 @@ module _ (g : Given) (c : Call) (selected : ℕ) (o : c ≡ Call.Open selected) 
 
   open-after : number g c l ≡ 0 → after g c l ≡ after g c m
   open-after e =
-      unfold after in (pick-true _ _ _ (eq-eqb _ 0 e) ∙ rw o (unfold step in refl)
-      ∙ sym (pick-true _ _ _ (eq-eqb _ 0 (sym open-number ∙ e))))
+      accepted-steps g c l e ∙ rw o (unfold step in refl) ∙ sym (accepted-steps g c m (sym open-number ∙ e))
 
 -- the first call: whatever the session and whatever the ledger held
 opened : (t : Turn) (selected : ℕ) → t .call ≡ Call.Open selected → Answered t → (l : Ledger) → number (givenTo t) (t .call) l ≡ 0

@@ -9,8 +9,8 @@ use lib.Seq.{take-at, drop-at}
 use borrow.Author.Tests.{eqb-true, eqb-false}
 use Rattle.masks.specs.Pick.{pick-true, pick-false}
 use Rattle.accepted.specs.Accept.{bytes-accepted}
-use Rattle.ledger.specs.Ledger.{Decision, Ledger, Given, inForce, step, offersOf, number, after}
-use Rattle.ledger.specs.Laws.{SameLedger, same-ledger, same-then, step-same, alike-offers, number-same}
+use Rattle.ledger.specs.Ledger.{Decision, Ledger, Given, inForce, step, offersOf, number}
+use Rattle.ledger.specs.Laws.{accepted-steps, refused-keeps, SameLedger, same-ledger, same-then, step-same, alike-offers, number-same}
 use Rattle.ledger.specs.Judging.{sheet-accepted, none-applies}
 use Rattle.session.specs.declared.Session.{Session}
 use Rattle.session.specs.Decisions.{heldIn}
@@ -47,13 +47,13 @@ module _ (l : Ledger) (t : Turn) (same : SameLedger (view (t .session)) l) (said
   shows s m a = (λ d. sym (inForce-of (s .decisions) d) ∙ a .held d, a .past, a .selected)
 
   was-refused : eqb k 0 ≡ false → CallAgrees
-  unfolding result after
+  unfolding result
   was-refused e =
       let q : gave ≡ refused k (t .session) (t .lent .offers) = said .answers ∙ pick-false _ _ _ e in
       let n : t .number ≡ k = ap (λ (a : CallResult). a .number) q in
       let s : t .session′ ≡ t .session = ap (λ (a : CallResult). a .session) q in
       let o : t .left .offers ≡ t .lent .offers = ap (λ (a : CallResult). a .offers) q in
-      let m : next l t ≡ l = pick-false _ _ _ (ap (λ (x : ℕ). eqb x 0) (sym ledgers) ∙ e) in
+      let m : next l t ≡ l = refused-keeps g (t .call) l (λ z. eqb-false k 0 e (ledgers ∙ z)) in
       let a : SameLedger (view (t .session′)) (next l t) = rw (s, m) same in
       let h = shows (t .session′) (next l t) a in (
         record {
@@ -69,7 +69,7 @@ module _ (l : Ledger) (t : Turn) (same : SameLedger (view (t .session)) l) (said
       )
 
   was-accepted : eqb k 0 ≡ true → CallAgrees
-  unfolding result after
+  unfolding result
   was-accepted e =
       let y = eqb-true k 0 e in
       let v = none-applies g (t .call) (view (t .session)) y in
@@ -77,7 +77,7 @@ module _ (l : Ledger) (t : Turn) (same : SameLedger (view (t .session)) l) (said
       let q : gave ≡ accepted (numbersOf t) (t .call) (t .session) (t .lent .offers) = said .answers ∙ pick-true _ _ _ e in
       let n : t .number ≡ 0 = ap (λ (a : CallResult). a .number) q in
       let s : t .session′ ≡ stepped (t .call) (t .session) = ap (λ (a : CallResult). a .session) q in
-      let m : next l t ≡ step (t .call) l = pick-true _ _ _ (ap (λ (x : ℕ). eqb x 0) (sym ledgers) ∙ e) in
+      let m : next l t ≡ step (t .call) l = accepted-steps g (t .call) l (sym ledgers ∙ y) in
       let b = shows-step (numbersOf t) (bytes-accepted (t .sheet) r) (t .engine) (t .order) (t .session) (t .call) (said .sized) v in
       let i = step-same (t .call) (view (t .session)) l same in
       let a : SameLedger (view (t .session′)) (next l t) = rw (s, m) (same-then b i) in
