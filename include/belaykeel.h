@@ -4,6 +4,9 @@
  * output as they were, and one refused by 6 the work spaces too. No call allocates, and none asks anything of its arguments but what C
  * asks: each pointer is valid for its length (and not NULL, even where the length is 0), and what a call writes (session, offers, rows,
  * memory, output) overlaps nothing else that it is given.
+ *
+ * A call that gives offers needs about 90,000 bytes of stack; 114,688 bytes are enough. The arrays of closing are 80,640 of the 90,000:
+ * counts 2 x 11,520, support sets 55,296, removal list 2,304.
  */
 #ifndef BELAYKEEL_H
 #define BELAYKEEL_H

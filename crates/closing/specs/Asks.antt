@@ -1,42 +1,65 @@
 -- What the functions of the engines ask of the set and of the tables. Assumes nothing.
-use mathlib.Core.Path.{_≡_, sym, ap, _∙_}
+use mathlib.Core.Path.{_≡_, refl, sym, ap, _∙_}
 use mathlib.Core.Logic.{⊎-elim}
-use mathlib.Core.Bool.{Bool, true, false, not, true≢false}
+use mathlib.Core.Bool.{Bool, true, false, not, _&&_, xor, true≢false, and-true}
 use mathlib.Core.List.{List}
 use Prim.Native.Nat.{ℕ, _^_, _≤_, _<_}
 use native.Mathlib.Nat.{lt-of-le-of-lt, lt-of-lt-of-le}
 use native.Mathlib.Omega.{arith}
-use lib.Bits.{bitOr}
+use lib.Bits.{bitOr, bitXor}
 use lib.ListN.{length, getD}
 use lib.Pow.{pow-mono}
-use Rattle.limits.specs.Limits.{mostFields, mostSettings}
-use Rattle.masks.specs.Tests.{never, not-so, eq-cases}
+use borrow.Author.Tests.{eq-eqb, ne-eqb}
+use Rattle.limits.specs.Limits.{mostFields, mostSettings, counterWords, supportWords, listPlaces}
+use Rattle.masks.specs.Tests.{never, not-so, bool-cases, eq-cases, iff-eq}
 use Rattle.masks.specs.Bits.{bit, bit-bound, Within, within-le}
 use Rattle.masks.specs.Masks.{maskOf-lt}
-use Rattle.masks.specs.Words.{clear, clear-within, clear-same}
-use Rattle.masks.specs.Sets.{has, ⊆-trans}
-use Rattle.masks.specs.Settings.{cut, cut-⊆, length-cut, lose, lose-⊆, lose-by, lose-set, length-lose, empty, empty-at, empty-by, empty-not}
-use Rattle.consistency.specs.Problem.{Problem, allFields, in-allFields}
+use Rattle.masks.specs.Words.{bit-xor, clear, clear-within, clear-same}
+use Rattle.masks.specs.Sets.{has, has-ext, _⊆_, ⊆-trans}
+use Rattle.masks.specs.Settings.{cut, cut-⊆, cut-by, lose, lose-⊆, lose-by, lose-set, length-lose, empty, empty-at, empty-by, empty-not}
+use Rattle.removal_list.specs.Count.{Small}
+use Rattle.removal_list.specs.Moved.{Moved, without, has-without, length-without}
+use Rattle.consistency.specs.Problem.{Problem, allFields, in-allFields, allFields-bound}
 use Rattle.consistency.specs.Closing.{closing, closing-is}
 use Rattle.consistency.specs.Passing.{NoneEmpty, noneEmpty, noneEmpty-at}
 use Rattle.network.specs.Tables.{problemOf, Wired}
-use Rattle.closing.specs.Shrunk.{or-within, one-within, Small, small-⊆, Shrunk, shrunk-then, shrunk-set}
-use Rattle.closing.specs.Close.{Ready, Closes}
-use Rattle.closing.specs.Frame.{Live, Tested, Removed, cut-ready, cut-full, lose-ready}
+use Rattle.closing.specs.Shrunk.{or-within, one-within, small-⊆, Shrunk, shrunk-then, shrunk-set}
+use Rattle.closing.specs.Supports.{Counts, Supports, supports-less, closed-positive}
+use Rattle.closing.specs.Prune.{PruneAsks}
+use Rattle.closing.specs.Close.{Closes}
+use Rattle.closing.specs.Frame.{Live, Tested, Removed}
 
 -- a set: a mask for each field, with a bit for each setting
 pub record Masks (S : List ℕ) : Type 0 where
   pub long : length S ≡ mostFields
   pub small : Small S
 
--- closing over W, where only the fields of `changed` may leave a setting without a partner
-pub record CloseAsks (n : ℕ) (joined forward turned : List ℕ) (W changed : ℕ) (S : List ℕ) : Type 0 where
+-- the spaces of closing as an engine makes them: no support set, no count, and a place for each setting (lines 1 to 4 of SAC_2 in Figure 2)
+pub record Blank (support counter copy list : List ℕ) : Type 0 where
+  pub long-support : length support ≡ supportWords
+  pub long-counter : length counter ≡ counterWords
+  pub long-copy : length copy ≡ counterWords
+  pub places : length list ≡ listPlaces
+  pub no-support : (q : ℕ) → getD support q 0 ≡ 0
+  pub no-count : (q : ℕ) → getD counter q 0 ≡ 0
+
+-- the start of an engine: no field is empty
+pub record CloseAsks (n : ℕ) (joined forward turned : List ℕ) (S support counter copy list : List ℕ) : Type 0 where
   pub wired : Wired n joined forward turned
   pub masks : Masks S
-  pub fields : Within W (allFields (problemOf n joined forward turned))
-  pub part : Within changed W
-  pub ready : Ready (problemOf n joined forward turned) W changed S
-  pub full : NoneEmpty (problemOf n joined forward turned) W S
+  pub full : NoneEmpty (problemOf n joined forward turned) (allFields (problemOf n joined forward turned)) S
+  pub blank : Blank support counter copy list
+
+-- Between two tests: the support sets serve the set, the counts are exact, and so is their copy.
+pub record Counted (P : Problem) (support counter copy list S : List ℕ) : Type 0 where
+  pub supported : Supports P support S
+  pub counts : Counts (P .fields) support counter S
+  pub copied : copy ≡ counter
+  pub places : length list ≡ listPlaces
+
+-- D became R, and the list from its front on has each setting that D lost a single time, and nothing else
+abbrev pub Lists : List ℕ → List ℕ → List ℕ → List ℕ → Type 0
+Lists D L R K = (u : ℕ) × Moved D L 0 R K u
 
 -- a set that an engine works on
 pub record LiveAsks (n : ℕ) (joined forward turned : List ℕ) (S : List ℕ) : Type 0 where
@@ -64,41 +87,76 @@ module _ (n : ℕ) (joined forward turned : List ℕ) (S : List ℕ) (a : LiveAs
       let k = a .wired .few in
       (l, omega arith, bit-bound mostSettings (getD S f 0) v (a .masks .small f) e)
 
-  cut-masks : (f v : ℕ) → Masks (cut S f v)
-  cut-masks f v = record { long = length-cut S f v ∙ a .masks .long; small = small-⊆ S (cut S f v) (cut-⊆ S f v) (a .masks .small) }
-
-  -- what closing asks of the cut set, and of the set without a setting
-  pub cut-asks : (W f v : ℕ) → Within W (allFields P) → bit W f ≡ true → has S f v ≡ true
-      → CloseAsks n joined forward turned W (2 ^ f) (cut S f v)
-  cut-asks W f v w b e = record {
-    wired = a .wired;
-    masks = cut-masks f v;
-    fields = w;
-    part = one-within W f b;
-    ready = cut-ready P W S f v (a .live .shut);
-    full = cut-full P W S f v e (a .live .full);
-  }
-
   -- what a passed test left is a set
   pub tested-masks : {W f v : ℕ} {ok : Bool} {R : List ℕ} → Tested P W S f v ok R → ok ≡ true → Masks R
   tested-masks {W} {f} {v} {ok} {R} d e =
       let part = ⊆-trans R (cut S f v) S (rw (d .rest e) (closing-is P W (cut S f v) .inside)) (cut-⊆ S f v) in
       record { long = d .sized ∙ a .masks .long; small = small-⊆ S R part (a .masks .small) }
 
-  pub lose-asks : (f v : ℕ) → has S f v ≡ true → empty (lose S f v) f ≡ false
-      → CloseAsks n joined forward turned (allFields P) (2 ^ f) (lose S f v)
-  unfolding problemOf
-  lose-asks f v e z = record {
-    wired = a .wired;
-    masks = record { long = length-lose S f v ∙ a .masks .long; small = small-⊆ S (lose S f v) (lose-⊆ S f v) (a .masks .small) };
-    fields = λ g i. i;
-    part = one-within (allFields P) f (in-allFields P f (a .live .on f v e) .1);
-    ready = lose-ready P S f v (a .live .shut);
-    full = λ g i. ⊎-elim (λ q. rw q z)
-        (λ q. let s = empty-not S g (a .live .full g i) in
-        not-so (empty (lose S f v) g) (λ y. never (lose-by S f v g (s .0) (s .1) (λ x _. q x)) (empty-at (lose S f v) g (s .0) y)))
-        (eq-cases g f);
-  }
+  -- ---- settings of one field leave the set and enter the list
+
+  module _ (R : List ℕ) (f : ℕ) (sized : length R ≡ length S) (inside : R ⊆ S)
+      (same : (g u : ℕ) → (g ≡ f → ⊥) → has R g u ≡ has S g u) where
+    off-bit : (u : ℕ) → bit (bitXor (getD S f 0) (getD R f 0)) u ≡ xor (has S f u) (has R f u)
+    unfolding has
+    off-bit u = bit-xor (getD S f 0) (getD R f 0) u
+
+    -- those that R lacks are of S
+    pub off-within : Within (bitXor (getD S f 0) (getD R f 0)) (getD S f 0)
+    unfolding has xor
+    off-within u e = ⊎-elim (λ q. q)
+        (λ q. let r = not-so (has R f u) (λ x. never (inside f u x) q) in absurd (never e (off-bit u ∙ rw (q, r)))) (bool-cases (has S f u))
+
+    pub without-off : without S f (bitXor (getD S f 0) (getD R f 0)) ≡ R
+    unfolding xor
+    without-off = has-ext _ R (length-without S f _ ∙ sym sized) (λ g u. has-without S f _ g u
+        ∙ ⊎-elim (λ (q : g ≡ f). rw (q, eq-eqb f f refl, off-bit u) (part (has S f u) (has R f u) (inside f u)))
+        (λ q. rw (ne-eqb g f q, and-true, same g u q)) (eq-cases g f))
+      where
+        part : (x y : Bool) → (y ≡ true → x ≡ true) → (x && not (xor x y)) ≡ y
+        part true true h = refl
+        part true false h = refl
+        part false true h = h refl
+        part false false h = refl
+
+    module _ (support counter copy list : List ℕ) (ct : Counted P support counter copy list S) (W : ℕ) (fields : Within W (allFields P))
+        (in-W : bit W f ≡ true) (full : NoneEmpty P W R) where
+      -- what pruneAC asks then, for the counts or their copy
+      pub prune-asks : (C : List ℕ) → C ≡ counter → (K : List ℕ) (t : ℕ) → Moved S list 0 R K t → PruneAsks P W support R K t C
+      unfolding problemOf
+      prune-asks C e K t m = record {
+        listed = record {
+          whole = S;
+          before = list;
+          long = a .masks .long;
+          small = a .masks .small;
+          places = ct .places;
+          moved = m;
+          counts = rw e (ct .counts);
+          fields = λ j b x y. ⊎-elim (λ q. rw q in-W) (λ q. absurd (never (same j b q ∙ x) y)) (eq-cases j f);
+        };
+        supported = supports-less P support S R inside (ct .supported);
+        positive = λ i j v x y r h. rw e
+            (closed-positive P support counter S (ct .supported) (allFields P) (ct .counts) (a .masks .small) (a .live .shut)
+            i j v (x .0, fields i (x .1)) (y .0, fields j (y .1)) r (inside i v h));
+        full = full;
+        on = λ g b. allFields-bound P g (fields g b);
+        few = a .wired .few;
+      }
+
+  -- the set cut to a setting, and the set without it, differ from it in one field
+  pub cut-same : (f v g u : ℕ) → (g ≡ f → ⊥) → has (cut S f v) g u ≡ has S g u
+  cut-same f v g u d = iff-eq _ _ (cut-⊆ S f v g u) (λ e. cut-by S f v g u e (λ q. absurd (d q)))
+
+  pub lose-same : (f v g u : ℕ) → (g ≡ f → ⊥) → has (lose S f v) g u ≡ has S g u
+  lose-same f v g u d = iff-eq _ _ (lose-⊆ S f v g u) (λ e. lose-by S f v g u e (λ q _. d q))
+
+  pub lose-full : (f v : ℕ) → empty (lose S f v) f ≡ false → NoneEmpty P (allFields P) (lose S f v)
+  lose-full f v z g i =
+      ⊎-elim (λ q. rw q z)
+      (λ q. let s = empty-not S g (a .live .full g i) in
+      not-so (empty (lose S f v) g) (λ y. never (lose-by S f v g (s .0) (s .1) (λ x _. q x)) (empty-at (lose S f v) g (s .0) y)))
+      (eq-cases g f)
 
   lose-shrunk : (f v : ℕ) → has S f v ≡ true → Shrunk S (lose S f v) (2 ^ f)
   unfolding has
@@ -109,10 +167,10 @@ module _ (n : ℕ) (joined forward turned : List ℕ) (S : List ℕ) (a : LiveAs
       (λ q. never e (ap (λ (x : ℕ). bit x v) (sym q) ∙ clear-same (getD S f 0) v)))
 
   -- the field has nothing left
-  pub removed-empty : (f v : ℕ) → has S f v ≡ true → empty (lose S f v) f ≡ true → Removed P S f v true 0 (lose S f v)
+  pub removed-empty : (f v : ℕ) → has S f v ≡ true → empty (lose S f v) f ≡ true → Removed P S f v true 0 S
   unfolding problemOf
   removed-empty f v e z = record {
-    sized = length-lose S f v;
+    sized = refl;
     wipes = sym (ap not (not-so (noneEmpty P (allFields P) (closing P (allFields P) (lose S f v))) (λ n.
         never (empty-by (closing P (allFields P) (lose S f v)) f
         (λ u i. never (closing-is P (allFields P) (lose S f v) .inside f u i) (empty-at (lose S f v) f u z)))

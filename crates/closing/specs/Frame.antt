@@ -3,14 +3,13 @@ use mathlib.Core.Path.{_≡_, refl, sym, ap, ap₂, _∙_}
 use mathlib.Core.Logic.{⊎-elim}
 use mathlib.Core.Bool.{Bool, true, false, not}
 use mathlib.Core.List.{List}
-use Prim.Native.Nat.{ℕ, _^_}
+use Prim.Native.Nat.{ℕ}
 use lib.ListN.{length, getD}
-use borrow.Author.Tests.{eq-eqb, not-true, not-false}
+use borrow.Author.Tests.{not-true, not-false}
 use Rattle.masks.specs.Tests.{never, not-so, bool-cases, eq-cases}
 use Rattle.masks.specs.Bits.{bit, Within}
-use Rattle.masks.specs.Words.{bit-one}
 use Rattle.masks.specs.Sets.{has, has-mask, _⊆_}
-use Rattle.masks.specs.Settings.{cut, cut-⊆, cut-at, cut-by, length-cut, lose, lose-⊆, lose-by, lose-at, empty, empty-at}
+use Rattle.masks.specs.Settings.{cut, cut-⊆, cut-at, cut-by, length-cut, lose, lose-at, empty, empty-at}
 use Rattle.masks.specs.Settings.{empty-not, someEmpty}
 use Rattle.masks.specs.Restrict.{restrict-⊆, restrict-at}
 use Rattle.consistency.specs.Problem.{Problem, In, OnFields, allFields, in-allFields}
@@ -19,7 +18,7 @@ use Rattle.consistency.specs.Passing.{NoneEmpty, noneEmpty, noneEmpty-at, noneE
 use Rattle.consistency.specs.Left.{passes-still}
 use Rattle.consistency.specs.Offers.{offers, offers-is, offers-lose, offers-in-closing, offers-between, wipedOut, wipedOut-by}
 use Rattle.closing.specs.Shrunk.{Shrunk}
-use Rattle.closing.specs.Close.{Ready, Closes}
+use Rattle.closing.specs.Close.{Closes}
 
 module _ (P : Problem) where
   -- A set that an engine works on: settings of the problem's fields only, closed over every field, no field empty.
@@ -29,11 +28,6 @@ module _ (P : Problem) where
     pub full : NoneEmpty P (allFields P) S
 
   -- ---- the test of position v of field f over W
-
-  pub cut-ready : (W : ℕ) (S : List ℕ) (f v : ℕ) → Closed P (allFields P) S → Ready P W (2 ^ f) (cut S f v)
-  cut-ready W S f v c h g i j k n u e =
-      let s = c h u (cut-⊆ S f v h u e) (in-allFields P h (i .0)) g (in-allFields P g (j .0)) k in
-      (s .0, cut-by S f v g (s .0) (s .1) (λ q. absurd (never (bit-one f g ∙ eq-eqb g f q) n)), s .2)
 
   pub cut-full : (W : ℕ) (S : List ℕ) (f v : ℕ) → has S f v ≡ true → NoneEmpty P (allFields P) S → NoneEmpty P W (cut S f v)
   cut-full W S f v e n g i =
@@ -76,11 +70,6 @@ module _ (P : Problem) where
             (λ q. has-mask R S g u (same g w q) ∙ cut-⊆ S f v g u c) (eq-cases g f)
 
   -- ---- a setting that failed is lost, and the set closed again
-
-  pub lose-ready : (S : List ℕ) (f v : ℕ) → Closed P (allFields P) S → Ready P (allFields P) (2 ^ f) (lose S f v)
-  lose-ready S f v c h g i j k n u e =
-      let s = c h u (lose-⊆ S f v h u e) i g j k in
-      (s .0, lose-by S f v g (s .0) (s .1) (λ x y. never (bit-one f g ∙ eq-eqb g f x) n), s .2)
 
   -- the closing without the setting, or that a field is empty in it
   pub record Removed (S : List ℕ) (f v : ℕ) (wiped : Bool) (touched : ℕ) (R : List ℕ) : Type 0 where

@@ -1,8 +1,19 @@
+-- Closing by AC-4: the support sets and counts, the removal list emptied, the test of a setting, and its removal.
+pub mod Counting
 pub mod Shrunk
-pub mod Union
-pub mod Spread
+pub mod Supports
+pub mod Drop
 pub mod Close
-pub mod Rows
+pub mod Pending
+pub mod Prune
+pub mod Initialize
+pub mod Record
+pub mod Count
+pub mod Recover
 pub mod Frame
 pub mod Asks
-pub mod CloseTurn
+pub mod PruneTurn
+pub mod InitializeTurn
+pub mod Start
+pub mod TestAsks
+pub mod Figure2

@@ -1,24 +1,19 @@
-// Closing a set over some of the fields, by a mask of the fields that changed.
+// Closing at the start of an engine: the support sets and counts are made, and the removal list is emptied (lines 7 and 8 of SAC_2 in
+// Figure 2).
 ghost use mathlib.Core.Path.{_≡_};
 ghost use mathlib.Core.Bool.{false};
-ghost use Prim.Native.Nat.{_^_, _≤_, _<_};
-ghost use lib.Bits.{bitAnd};
-ghost use lib.ListN.{length, getD};
-ghost use Rattle.limits.specs.Limits.{mostFields, mostSettings, tableWords};
-ghost use Rattle.masks.specs.Bits.{bit, Within};
-ghost use Rattle.network.specs.Tables.{rowsOf, problemOf};
-ghost use Rattle.closing.specs.Union.{Floods, unionOf};
-ghost use Rattle.closing.specs.Spread.{Spread};
+ghost use Rattle.consistency.specs.Problem.{allFields};
+ghost use Rattle.network.specs.Tables.{problemOf};
 ghost use Rattle.closing.specs.Close.{Closes};
-ghost use Rattle.closing.specs.Asks.{CloseAsks, Masks};
-use super::union::floods;
-use super::union::union;
+ghost use Rattle.closing.specs.Asks.{CloseAsks, Counted, Lists};
+use super::initialize_ac::initialize_ac;
+use super::prune_ac::prune_ac;
+use super::recover::recover;
+use limits::COUNTER_WORDS;
 use limits::FIELDS;
-use limits::SETTINGS;
-use masks::clear_bit;
-use masks::lowest_bit;
-use masks::one_bit;
-use network::rows::row;
+use limits::LIST_PLACES;
+use limits::SUPPORT_WORDS;
+use network::hoods::all_fields;
 
 // What became of a set: whether a field has nothing left, and else which fields lost settings.
 pub struct Narrowed {
@@ -26,109 +21,48 @@ pub struct Narrowed {
     pub changed: u32,
 }
 
-// What is left of the settings d of f by its rule with g, whose settings are own, with the floods `masks`.
-fn kept<'a>(
-    forward: &'a [u32],
-    turned: &'a [u32],
-    g: usize,
-    f: usize,
-    masks: &[u32; SETTINGS],
-    own: u32,
-    d: u32,
-) -> u32
-    requires { ⌜ (g < mostFields) × (f < mostFields) × (g ≡ f → ⊥) × (tableWords ≤ length (now forward))
-        × (tableWords ≤ length (now turned)) × Floods own mostSettings (now masks) ⌝ }
-    ensures { λ r. ⌜ r ≡ bitAnd d (unionOf (rowsOf (now (forward .entry)) (now (turned .entry)) g f) own) ⌝ }
-{
-    let rows = row(forward, turned, g, f);
-    d & union(rows, masks, own)
-}
-
-// Each field of near keeps what has a partner in g.
-fn spread<'a>(
-    m: &mut [u32; FIELDS],
-    g: usize,
-    near: u32,
-    forward: &'a [u32],
-    turned: &'a [u32],
-) -> Narrowed
-    requires { ⌜ Masks (now m) × (g < mostFields) × (near < 2 ^ mostFields) × (bit near g ≡ false)
-        × (tableWords ≤ length (now forward)) × (tableWords ≤ length (now turned)) ⌝ }
-    ensures { λ r. ⌜ Spread near (λ f. unionOf (rowsOf (now (forward .entry)) (now (turned .entry)) g f) (getD (now (m .entry)) g 0))
-        (now (m .entry)) (r .wiped) (r .changed) (now (m .exit)) ⌝ }
-{
-    let own = m[g];
-    let masks = floods(own);
-    let mut changed: u32 = 0;
-    let mut left = near;
-    while left != 0 {
-        let f = lowest_bit(left);
-        left = clear_bit(left, f);
-        let old = m[f];
-        let new = kept(forward, turned, g, f, &masks, own, old);
-        if new != old {
-            if new == 0 {
-                return Narrowed {
-                    wiped: true,
-                    changed,
-                };
-            }
-            m[f] = new;
-            changed |= one_bit(f);
-        }
-    }
-    Narrowed {
-        wiped: false,
-        changed,
-    }
-}
-
-// The fields that a sweep over the changed fields still takes; where none is left, all of a new sweep.
-fn swept(sweep: u32, left: u32) -> u32
-    requires { ⌜ (left ≡ 0 → ⊥) × Within sweep left ⌝ }
-    ensures { λ r. ⌜ (r ≡ 0 → ⊥) × Within r left ⌝ }
-{
-    if sweep == 0 {
-        return left;
-    }
-    sweep
-}
-
-// Closes m over the fields of `within`, where only the fields of `changed` may leave a setting without a partner. The number of fields n is
-// there for the contract, which speaks of the problem of n fields that the tables hold.
+// Closes m over every field. There are no support sets and no counts before; those that it leaves serve the tests and removals after it.
 pub fn close<'a>(
     m: &mut [u32; FIELDS],
     n: usize,
-    within: u32,
-    changed: u32,
+    counter: &mut [u32; COUNTER_WORDS],
+    copy: &mut [u32; COUNTER_WORDS],
+    support: &mut [u32; SUPPORT_WORDS],
+    list: &mut [u32; LIST_PLACES],
     joined: &[u32; FIELDS],
     forward: &'a [u32],
     turned: &'a [u32],
 ) -> Narrowed
-    requires { ⌜ CloseAsks n (now joined) (now forward) (now turned) within changed (now m) ⌝ }
-    ensures { λ r. ⌜ Closes (problemOf n (now (joined .entry)) (now (forward .entry)) (now (turned .entry))) within
-        (now (m .entry)) (r .wiped) (r .changed) (now (m .exit)) ⌝ }
+    requires { ⌜ CloseAsks n (now joined) (now forward) (now turned) (now m) (now support) (now counter) (now copy) (now list) ⌝ }
+    ensures { λ r. ⌜ Closes (problemOf n (now (joined .entry)) (now (forward .entry)) (now (turned .entry)))
+        (allFields (problemOf n (now (joined .entry)) (now (forward .entry)) (now (turned .entry))))
+        (now (m .entry)) (r .wiped) (r .changed) (now (m .exit))
+        × (r .wiped ≡ false → Counted (problemOf n (now (joined .entry)) (now (forward .entry)) (now (turned .entry)))
+        (now (support .exit)) (now (counter .exit)) (now (copy .exit)) (now (list .exit)) (now (m .exit)))
+        × Lists (now (m .entry)) (now (list .entry)) (now (m .exit)) (now (list .exit)) ⌝ }
 {
-    let mut left = changed;
-    let mut sweep = changed;
-    let mut touched: u32 = 0;
-    while left != 0 {
-        let next = swept(sweep, left);
-        let g = lowest_bit(next);
-        sweep = clear_bit(next, g);
-        let near = joined[g] & within;
-        let s = spread(m, g, near, forward, turned);
-        if s.wiped {
-            return Narrowed {
-                wiped: true,
-                changed: touched,
-            };
-        }
-        left = clear_bit(left, g) | s.changed;
-        touched |= s.changed;
+    let r = initialize_ac(m, n, counter, support, list, joined, forward, turned);
+    if r.wiped {
+        return Narrowed {
+            wiped: true,
+            changed: r.changed,
+        };
     }
+    let q = prune_ac(
+        m,
+        n,
+        all_fields(n),
+        counter,
+        support,
+        list,
+        r.tail,
+        joined,
+        forward,
+        turned,
+    );
+    recover(copy, counter, all_fields(FIELDS));
     Narrowed {
-        wiped: false,
-        changed: touched,
+        wiped: q.wiped,
+        changed: r.changed | q.changed,
     }
 }

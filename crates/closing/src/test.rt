@@ -1,75 +1,118 @@
-// The test of a setting, and the removal of one that failed.
+// The test of a setting, and the removal of one that failed: settings leave a set and enter the removal list, and it is emptied.
 ghost use mathlib.Core.Path.{_≡_};
-ghost use mathlib.Core.Bool.{true};
-ghost use mathlib.Core.List.{List};
-ghost use Prim.Native.Nat.{ℕ, _^_, _<_};
-ghost use Rattle.limits.specs.Limits.{mostFields};
+ghost use mathlib.Core.Bool.{true, false};
+ghost use Rattle.masks.specs.Bits.{bit, Within};
 ghost use Rattle.masks.specs.Sets.{has};
-ghost use Rattle.masks.specs.Settings.{cut, lose, empty};
+ghost use Rattle.consistency.specs.Problem.{allFields};
 ghost use Rattle.network.specs.Tables.{problemOf};
 ghost use Rattle.closing.specs.Frame.{Tested, Removed};
-ghost use Rattle.closing.specs.Asks.{CloseAsks, LiveAsks};
+ghost use Rattle.closing.specs.Asks.{LiveAsks, Counted, Lists};
 use super::close::Narrowed;
-use super::close::close;
+use super::prune_ac::prune_ac;
+use super::recover::recover;
+use limits::COUNTER_WORDS;
 use limits::FIELDS;
+use limits::LIST_PLACES;
+use limits::SUPPORT_WORDS;
 use masks::Domains;
 use masks::one_bit;
 use network::hoods::all_fields;
+use removal_list::move_out;
 
-// Takes a setting from the set behind a reference. Whether its field is empty then.
-fn lose_in(m: &mut [u32; FIELDS], f: usize, v: usize) -> bool
-    requires { ⌜ (f < mostFields) × (v < 32) ⌝ }
-    ensures { λ r. ⌜ (r ≡ empty (lose (now (m .entry)) f v) f) × (now (m .exit) ≡ lose (now (m .entry)) f v) ⌝ }
-{
-    let masks = *m;
-    let set = Domains { masks };
-    let left = set.lose(f, v);
-    m[f] = left.masks[f];
-    left.is_empty(f)
-}
-
-// Tests a setting of field f over the fields of `within`. t is the set cut to it; where it passes, t becomes what the test left.
+// Tests position v of field f over the fields of `within`, on the copy of the counts and starting from the settings of f that are cut off.
+// t is the set; where the setting passes, t becomes what the test left.
 pub fn test<'a>(
     t: &mut [u32; FIELDS],
     n: usize,
     f: usize,
+    v: usize,
     within: u32,
+    counter: &[u32; COUNTER_WORDS],
+    copy: &mut [u32; COUNTER_WORDS],
+    support: &[u32; SUPPORT_WORDS],
+    list: &mut [u32; LIST_PLACES],
     joined: &[u32; FIELDS],
     forward: &'a [u32],
     turned: &'a [u32],
 ) -> bool
-    requires { ⌜ (f < mostFields) × CloseAsks n (now joined) (now forward) (now turned) within (2 ^ f) (now t) ⌝ }
-    ensures { λ r. ⌜ ((S : List ℕ) (v : ℕ) → now (t .entry) ≡ cut S f v
-        → Tested (problemOf n (now (joined .entry)) (now (forward .entry)) (now (turned .entry))) within S f v r (now (t .exit))) ⌝ }
+    requires { ⌜ LiveAsks n (now joined) (now forward) (now turned) (now t) × (has (now t) f v ≡ true)
+        × Within within (allFields (problemOf n (now joined) (now forward) (now turned))) × (bit within f ≡ true) ⌝ }
+    requires { ⌜ Counted (problemOf n (now joined) (now forward) (now turned)) (now support) (now counter) (now copy) (now list) (now t) ⌝ }
+    ensures { λ r. ⌜ Tested (problemOf n (now (joined .entry)) (now (forward .entry)) (now (turned .entry))) within
+        (now (t .entry)) f v r (now (t .exit))
+        × Counted (problemOf n (now (joined .entry)) (now (forward .entry)) (now (turned .entry))) (now (support .entry))
+        (now (counter .entry)) (now (copy .exit)) (now (list .exit)) (now (t .entry))
+        × Lists (now (t .entry)) (now (list .entry)) (now (t .exit)) (now (list .exit)) ⌝ }
 {
-    let r = close(t, n, within, one_bit(f), joined, forward, turned);
-    !r.wiped
+    let masks = *t;
+    let set = Domains { masks };
+    let cut = set.cut(f, v);
+    let off = t[f] ^ cut.masks[f];
+    let tail = move_out(t, f, off, list, 0);
+    let p = prune_ac(
+        t,
+        n,
+        within,
+        copy,
+        support,
+        list,
+        tail,
+        joined,
+        forward,
+        turned,
+    );
+    recover(copy, counter, p.spent);
+    !p.wiped
 }
 
-// Takes position v of field f from the set and closes it over every field again.
+// Takes position v of field f from the set and closes it over every field again, with the counts.
 pub fn remove<'a>(
     m: &mut [u32; FIELDS],
     n: usize,
     f: usize,
     v: usize,
+    counter: &mut [u32; COUNTER_WORDS],
+    copy: &mut [u32; COUNTER_WORDS],
+    support: &[u32; SUPPORT_WORDS],
+    list: &mut [u32; LIST_PLACES],
     joined: &[u32; FIELDS],
     forward: &'a [u32],
     turned: &'a [u32],
 ) -> Narrowed
     requires { ⌜ LiveAsks n (now joined) (now forward) (now turned) (now m) × (has (now m) f v ≡ true) ⌝ }
+    requires { ⌜ Counted (problemOf n (now joined) (now forward) (now turned)) (now support) (now counter) (now copy) (now list) (now m) ⌝ }
     ensures { λ r. ⌜ Removed (problemOf n (now (joined .entry)) (now (forward .entry)) (now (turned .entry)))
-        (now (m .entry)) f v (r .wiped) (r .changed) (now (m .exit)) ⌝ }
+        (now (m .entry)) f v (r .wiped) (r .changed) (now (m .exit))
+        × (r .wiped ≡ false → Counted (problemOf n (now (joined .entry)) (now (forward .entry)) (now (turned .entry)))
+        (now (support .entry)) (now (counter .exit)) (now (copy .exit)) (now (list .exit)) (now (m .exit)))
+        × Lists (now (m .entry)) (now (list .entry)) (now (m .exit)) (now (list .exit)) ⌝ }
 {
-    if lose_in(m, f, v) {
+    let masks = *m;
+    let set = Domains { masks };
+    let left = set.lose(f, v);
+    if left.is_empty(f) {
         return Narrowed {
             wiped: true,
             changed: 0,
         };
     }
-    let own = one_bit(f);
-    let r = close(m, n, all_fields(n), own, joined, forward, turned);
+    let off = m[f] ^ left.masks[f];
+    let tail = move_out(m, f, off, list, 0);
+    let r = prune_ac(
+        m,
+        n,
+        all_fields(n),
+        counter,
+        support,
+        list,
+        tail,
+        joined,
+        forward,
+        turned,
+    );
+    recover(copy, counter, r.spent);
     Narrowed {
         wiped: r.wiped,
-        changed: own | r.changed,
+        changed: one_bit(f) | r.changed,
     }
 }

@@ -17,7 +17,7 @@ use Rattle.consistency.specs.Passing.{NoneEmpty, noneEmpty-at, passesOver, pass
 use Rattle.consistency.specs.Offers.{PartiallyConsistent, offers, offers-is, offers-unique, offers-in-closing, offers-of-closing}
 use Rattle.consistency.specs.Offers.{wipedOut, wipedOut-by}
 use Rattle.closing.specs.Shrunk.{Shrunk, shrunk-none, shrunk-then, or-within}
-use Rattle.closing.specs.Close.{Ready, Closes}
+use Rattle.closing.specs.Close.{Closes}
 use Rattle.closing.specs.Frame.{Live, wiped-by, wiped-same}
 use Rattle.visiting.specs.Visit.{Visited}
 
@@ -70,9 +70,6 @@ module _ (P : Problem) where
     none = λ _ hood selected. let x = someEmpty-at (P .fields) S e in
         wipedOut-by P hood selected S S (x .0) (x .1) (offers-is P hood selected S .inside) (x .2);
   }
-
-  pub all-ready : (S : List ℕ) → Ready P (allFields P) (allFields P) S
-  all-ready S f g i j k n = absurd (never (j .1) n)
 
   pub all-full : (S : List ℕ) → someEmpty (P .fields) S ≡ false → NoneEmpty P (allFields P) S
   all-full S e g i = not-so (empty S g) (λ z. never (someEmpty-by (P .fields) S g (i .0) z) e)

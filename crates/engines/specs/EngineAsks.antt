@@ -4,17 +4,18 @@ use mathlib.Core.Bool.{true, false}
 use mathlib.Core.List.{List}
 use Prim.Native.Nat.{ℕ, _≤_, _<_}
 use native.Mathlib.Omega.{arith}
-use lib.ListN.{length, getD}
-use Rattle.limits.specs.Limits.{mostFields}
+use lib.ListN.{length, getD, replicate, length-replicate}
+use Rattle.limits.specs.Limits.{mostFields, counterWords, supportWords, listPlaces}
 use Rattle.masks.specs.Bits.{bit, Within}
+use Rattle.masks.specs.Sets.{getD-zeros}
 use Rattle.masks.specs.Settings.{someEmpty}
 use Rattle.consistency.specs.Problem.{Problem, In, OnFields, allFields}
 use Rattle.network.specs.declared.build.Network.{Network}
 use Rattle.network.specs.Tables.{problemOf, Wired}
 use Rattle.closing.specs.Shrunk.{small-⊆}
-use Rattle.closing.specs.Asks.{Masks, CloseAsks, LiveAsks, asks-shrunk}
+use Rattle.closing.specs.Asks.{Masks, Blank, CloseAsks, LiveAsks, asks-shrunk}
 use Rattle.visiting.specs.Store.{HoodAsks}
-use Rattle.engines.specs.Engine.{IsOrder, Hoods, Begun, all-ready, all-full, Kept}
+use Rattle.engines.specs.Engine.{IsOrder, Hoods, Begun, all-full, Kept}
 
 -- a set as it is given: settings of the problem's fields only
 pub record StartAsks (n : ℕ) (joined forward turned : List ℕ) (S : List ℕ) : Type 0 where
@@ -34,22 +35,26 @@ RunAsks net forward turned order selected S =
     StartAsks (net .fields) (net .joined) forward turned S
     × Lent (net .fields) (net .joined) forward turned order selected (net .hood)
 
+-- arrays of zeros are the spaces of closing
+pub blank-zeros : Blank (replicate supportWords 0) (replicate counterWords 0) (replicate counterWords 0) (replicate listPlaces 0)
+blank-zeros = record {
+  long-support = length-replicate {A = ℕ} supportWords 0;
+  long-counter = length-replicate {A = ℕ} counterWords 0;
+  long-copy = length-replicate {A = ℕ} counterWords 0;
+  places = length-replicate {A = ℕ} listPlaces 0;
+  no-support = getD-zeros supportWords;
+  no-count = getD-zeros counterWords;
+}
+
 module _ (n : ℕ) (joined forward turned : List ℕ) where
   abbrev P : Problem
   P = problemOf n joined forward turned
 
-  -- closing at the start, from every field
-  pub start-asks : (S : List ℕ) → StartAsks n joined forward turned S → someEmpty n S ≡ false
-      → CloseAsks n joined forward turned (allFields P) (allFields P) S
+  -- closing at the start
+  pub start-asks : (S support counter copy list : List ℕ) → StartAsks n joined forward turned S → Blank support counter copy list
+      → someEmpty n S ≡ false → CloseAsks n joined forward turned S support counter copy list
   unfolding problemOf
-  start-asks S a e = record {
-    wired = a .wired;
-    masks = a .masks;
-    fields = λ g i. i;
-    part = λ g i. i;
-    ready = all-ready P S;
-    full = all-full P S e;
-  }
+  start-asks S support counter copy list a b e = record { wired = a .wired; masks = a .masks; full = all-full P S e; blank = b }
 
   pub begun-asks : (S R : List ℕ) → StartAsks n joined forward turned S → Begun P S false R → LiveAsks n joined forward turned R
   begun-asks S R a b = record {

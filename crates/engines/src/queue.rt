@@ -6,7 +6,7 @@ ghost use lib.ListN.{length};
 ghost use Rattle.limits.specs.Limits.{memoryWords};
 ghost use Rattle.masks.specs.Bits.{Within};
 ghost use Rattle.network.specs.Network.{problemIn};
-ghost use Rattle.closing.specs.Asks.{LiveAsks};
+ghost use Rattle.closing.specs.Asks.{LiveAsks, Blank, Counted};
 ghost use Rattle.visiting.specs.Store.{Store};
 ghost use Rattle.engines.specs.Engine.{Engine};
 ghost use Rattle.engines.specs.EngineAsks.{Lent, RunAsks};
@@ -14,7 +14,10 @@ ghost use Rattle.engines.specs.PutBack.{BackAsks, putBack};
 ghost use Rattle.engines.specs.Queue.{Rounded};
 use super::sac::begin;
 use super::sac::field_at;
+use limits::COUNTER_WORDS;
 use limits::FIELDS;
+use limits::LIST_PLACES;
+use limits::SUPPORT_WORDS;
 use limits::WHOLE_REACH;
 use masks::clear_bit;
 use masks::has_bit;
@@ -59,6 +62,10 @@ fn round<'a>(
     order: &[u8],
     selected: u32,
     net: Network,
+    counter: &mut [u32; COUNTER_WORDS],
+    copy: &mut [u32; COUNTER_WORDS],
+    support: &[u32; SUPPORT_WORDS],
+    list: &mut [u32; LIST_PLACES],
     forward: &'a [u32],
     turned: &'a [u32],
 ) -> Waiting
@@ -66,10 +73,13 @@ fn round<'a>(
         × Store (problemIn net (now forward) (now turned)) (net .hood) (now m) (now known) (now memory) ⌝ }
     requires { ⌜ Lent (net .fields) (net .joined) (now forward) (now turned) (now order) selected (net .hood)
         × Within waiting selected ⌝ }
+    requires { ⌜ Counted (problemIn net (now forward) (now turned)) (now support) (now counter) (now copy) (now list) (now m) ⌝ }
     ensures { λ r. ⌜ Rounded (problemIn net (now (forward .entry)) (now (turned .entry))) (now (order .entry)) (net .hood) selected
         (now (m .entry)) waiting (r .wiped) (r .queue) (now (m .exit))
         × (r .wiped ≡ false → Store (problemIn net (now (forward .entry)) (now (turned .entry))) (net .hood) (now (m .exit))
-        (now (known .exit)) (now (memory .exit))) ⌝ }
+        (now (known .exit)) (now (memory .exit)))
+        × (r .wiped ≡ false → Counted (problemIn net (now (forward .entry)) (now (turned .entry))) (now (support .entry))
+        (now (counter .exit)) (now (copy .exit)) (now (list .exit)) (now (m .exit))) ⌝ }
 {
     let n = net.fields;
     let mut queue = waiting;
@@ -78,7 +88,20 @@ fn round<'a>(
         let f = field_at(order, q);
         q += 1;
         if has_bit(queue, f) {
-            let r = visit(m, known, memory, false, f, net, forward, turned);
+            let r = visit(
+                m,
+                known,
+                memory,
+                false,
+                f,
+                net,
+                counter,
+                copy,
+                support,
+                list,
+                forward,
+                turned,
+            );
             if r.wiped {
                 return Waiting { wiped: true, queue };
             }
@@ -98,15 +121,20 @@ pub fn queued<'a>(
     order: &[u8],
     selected: u32,
     net: Network,
+    counter: &mut [u32; COUNTER_WORDS],
+    copy: &mut [u32; COUNTER_WORDS],
+    support: &mut [u32; SUPPORT_WORDS],
+    list: &mut [u32; LIST_PLACES],
     forward: &'a [u32],
     turned: &'a [u32],
 ) -> bool
     requires { ⌜ RunAsks net (now forward) (now turned) (now order) selected (now m) ⌝ }
     requires { ⌜ memoryWords ≤ length (now memory) ⌝ }
+    requires { ⌜ Blank (now support) (now counter) (now copy) (now list) ⌝ }
     ensures { λ r. ⌜ Engine (problemIn net (now (forward .entry)) (now (turned .entry))) (net .hood) selected (now (m .entry)) r
         (now (m .exit)) ⌝ }
 {
-    if begin(m, net, forward, turned) {
+    if begin(m, net, counter, copy, support, list, forward, turned) {
         return true;
     }
     let mut known = [0u32; FIELDS];
@@ -120,6 +148,10 @@ pub fn queued<'a>(
             order,
             selected,
             net,
+            counter,
+            copy,
+            support,
+            list,
             forward,
             turned,
         );

@@ -7,7 +7,10 @@ ghost use Rattle.engines.specs.Engine.{Engine};
 ghost use Rattle.engines.specs.EngineAsks.{RunAsks};
 use super::queue::queued;
 use super::sac::sac;
+use limits::COUNTER_WORDS;
 use limits::FIELDS;
+use limits::LIST_PLACES;
+use limits::SUPPORT_WORDS;
 use network::build::Network;
 
 // The engines by 01's numbers: 1 is SAC-1. Any other is taken for the first; the calls refuse it before.
@@ -15,8 +18,8 @@ const SAC_2: u32 = 2;
 
 const QUEUE: u32 = 3;
 
-// The engine asked for. Whether the set is wiped out; if not, m becomes its offers under the mask of selected fields. The memory may hold
-// anything before and after.
+// The engine asked for, with the spaces of closing. Whether the set is wiped out; if not, m becomes its offers under the mask of selected
+// fields. The memory may hold anything before and after.
 pub fn run<'a>(
     m: &mut [u32; FIELDS],
     memory: &mut [u32],
@@ -32,9 +35,51 @@ pub fn run<'a>(
     ensures { λ r. ⌜ Engine (problemIn net (now (forward .entry)) (now (turned .entry))) (net .hood) selected (now (m .entry)) r
         (now (m .exit)) ⌝ }
 {
+    let mut counter = [0u32; COUNTER_WORDS];
+    let mut copy = [0u32; COUNTER_WORDS];
+    let mut support = [0u32; SUPPORT_WORDS];
+    let mut list = [0u32; LIST_PLACES];
     match engine {
-        SAC_2 => sac(m, memory, true, order, selected, net, forward, turned),
-        QUEUE => queued(m, memory, order, selected, net, forward, turned),
-        _ => sac(m, memory, false, order, selected, net, forward, turned),
+        SAC_2 => sac(
+            m,
+            memory,
+            true,
+            order,
+            selected,
+            net,
+            &mut counter,
+            &mut copy,
+            &mut support,
+            &mut list,
+            forward,
+            turned,
+        ),
+        QUEUE => queued(
+            m,
+            memory,
+            order,
+            selected,
+            net,
+            &mut counter,
+            &mut copy,
+            &mut support,
+            &mut list,
+            forward,
+            turned,
+        ),
+        _ => sac(
+            m,
+            memory,
+            false,
+            order,
+            selected,
+            net,
+            &mut counter,
+            &mut copy,
+            &mut support,
+            &mut list,
+            forward,
+            turned,
+        ),
     }
 }

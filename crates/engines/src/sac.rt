@@ -6,24 +6,38 @@ ghost use Prim.Native.Nat.{_≤_, _<_};
 ghost use lib.ListN.{length, getD};
 ghost use Rattle.limits.specs.Limits.{mostFields, memoryWords};
 ghost use Rattle.network.specs.Network.{problemIn};
-ghost use Rattle.closing.specs.Asks.{LiveAsks};
+ghost use Rattle.closing.specs.Asks.{LiveAsks, Blank, Counted};
 ghost use Rattle.visiting.specs.Store.{Store};
 ghost use Rattle.engines.specs.Engine.{Begun, Engine};
 ghost use Rattle.engines.specs.EngineAsks.{StartAsks, Lent, RunAsks};
 ghost use Rattle.engines.specs.Pass.{Passed};
 use closing::close::Narrowed;
 use closing::close::close;
+use limits::COUNTER_WORDS;
 use limits::FIELDS;
+use limits::LIST_PLACES;
+use limits::SUPPORT_WORDS;
 use masks::Domains;
 use masks::has_bit;
 use network::build::Network;
-use network::hoods::all_fields;
 use visiting::visit::visit;
 
 // How every engine starts: where no field is empty, it closes over every field. Whether the set is wiped out already.
-pub fn begin<'a>(m: &mut [u32; FIELDS], net: Network, forward: &'a [u32], turned: &'a [u32]) -> bool
+pub fn begin<'a>(
+    m: &mut [u32; FIELDS],
+    net: Network,
+    counter: &mut [u32; COUNTER_WORDS],
+    copy: &mut [u32; COUNTER_WORDS],
+    support: &mut [u32; SUPPORT_WORDS],
+    list: &mut [u32; LIST_PLACES],
+    forward: &'a [u32],
+    turned: &'a [u32],
+) -> bool
     requires { ⌜ StartAsks (net .fields) (net .joined) (now forward) (now turned) (now m) ⌝ }
-    ensures { λ r. ⌜ Begun (problemIn net (now (forward .entry)) (now (turned .entry))) (now (m .entry)) r (now (m .exit)) ⌝ }
+    requires { ⌜ Blank (now support) (now counter) (now copy) (now list) ⌝ }
+    ensures { λ r. ⌜ Begun (problemIn net (now (forward .entry)) (now (turned .entry))) (now (m .entry)) r (now (m .exit))
+        × (r ≡ false → Counted (problemIn net (now (forward .entry)) (now (turned .entry))) (now (support .exit)) (now (counter .exit))
+        (now (copy .exit)) (now (list .exit)) (now (m .exit))) ⌝ }
 {
     let n = net.fields;
     let masks = *m;
@@ -31,8 +45,17 @@ pub fn begin<'a>(m: &mut [u32; FIELDS], net: Network, forward: &'a [u32], turned
     if set.some_empty(n) {
         return true;
     }
-    let all = all_fields(n);
-    let r = close(m, n, all, all, &net.joined, forward, turned);
+    let r = close(
+        m,
+        n,
+        counter,
+        copy,
+        support,
+        list,
+        &net.joined,
+        forward,
+        turned,
+    );
     r.wiped
 }
 
@@ -53,16 +76,23 @@ fn pass<'a>(
     order: &[u8],
     selected: u32,
     net: Network,
+    counter: &mut [u32; COUNTER_WORDS],
+    copy: &mut [u32; COUNTER_WORDS],
+    support: &[u32; SUPPORT_WORDS],
+    list: &mut [u32; LIST_PLACES],
     forward: &'a [u32],
     turned: &'a [u32],
 ) -> Narrowed
     requires { ⌜ LiveAsks (net .fields) (net .joined) (now forward) (now turned) (now m)
         × Store (problemIn net (now forward) (now turned)) (net .hood) (now m) (now known) (now memory) ⌝ }
     requires { ⌜ Lent (net .fields) (net .joined) (now forward) (now turned) (now order) selected (net .hood) ⌝ }
+    requires { ⌜ Counted (problemIn net (now forward) (now turned)) (now support) (now counter) (now copy) (now list) (now m) ⌝ }
     ensures { λ r. ⌜ Passed (problemIn net (now (forward .entry)) (now (turned .entry))) (now (order .entry)) (net .hood) selected
         (now (m .entry)) (r .wiped) (r .changed) (now (m .exit))
         × (r .wiped ≡ false → Store (problemIn net (now (forward .entry)) (now (turned .entry))) (net .hood) (now (m .exit))
-        (now (known .exit)) (now (memory .exit))) ⌝ }
+        (now (known .exit)) (now (memory .exit)))
+        × (r .wiped ≡ false → Counted (problemIn net (now (forward .entry)) (now (turned .entry))) (now (support .entry))
+        (now (counter .exit)) (now (copy .exit)) (now (list .exit)) (now (m .exit))) ⌝ }
 {
     let n = net.fields;
     let mut touched: u32 = 0;
@@ -71,7 +101,20 @@ fn pass<'a>(
         let f = field_at(order, q);
         q += 1;
         if has_bit(selected, f) {
-            let r = visit(m, known, memory, remembers, f, net, forward, turned);
+            let r = visit(
+                m,
+                known,
+                memory,
+                remembers,
+                f,
+                net,
+                counter,
+                copy,
+                support,
+                list,
+                forward,
+                turned,
+            );
             if r.wiped {
                 return Narrowed {
                     wiped: true,
@@ -95,15 +138,20 @@ pub fn sac<'a>(
     order: &[u8],
     selected: u32,
     net: Network,
+    counter: &mut [u32; COUNTER_WORDS],
+    copy: &mut [u32; COUNTER_WORDS],
+    support: &mut [u32; SUPPORT_WORDS],
+    list: &mut [u32; LIST_PLACES],
     forward: &'a [u32],
     turned: &'a [u32],
 ) -> bool
     requires { ⌜ RunAsks net (now forward) (now turned) (now order) selected (now m) ⌝ }
     requires { ⌜ memoryWords ≤ length (now memory) ⌝ }
+    requires { ⌜ Blank (now support) (now counter) (now copy) (now list) ⌝ }
     ensures { λ r. ⌜ Engine (problemIn net (now (forward .entry)) (now (turned .entry))) (net .hood) selected (now (m .entry)) r
         (now (m .exit)) ⌝ }
 {
-    if begin(m, net, forward, turned) {
+    if begin(m, net, counter, copy, support, list, forward, turned) {
         return true;
     }
     let mut known = [0u32; FIELDS];
@@ -116,6 +164,10 @@ pub fn sac<'a>(
             order,
             selected,
             net,
+            counter,
+            copy,
+            support,
+            list,
             forward,
             turned,
         );

@@ -58,6 +58,20 @@ memoryWords = 13824
 abbrev pub tableWords : ℕ
 tableWords = 6624
 
+-- What closing by AC-4 has (02, request 5): the words of the counts towards a field, five for each field, one for each binary digit of a
+-- count; the words of all counts; those of all support sets, one for each setting and field; and a place for each setting.
+abbrev pub countsWords : ℕ
+countsWords = 120
+
+abbrev pub counterWords : ℕ
+counterWords = 2880
+
+abbrev pub supportWords : ℕ
+supportWords = 13824
+
+abbrev pub listPlaces : ℕ
+listPlaces = 576
+
 -- the bytes of the text that the program prints: 24 lines of at most 2 + 1 + 24 * (1 + 10) + 1
 abbrev pub textBytes : ℕ
 textBytes = 6432

@@ -47,5 +47,15 @@ pub const MEMORY_WORDS: usize = 13824;
 // The words of one of the two tables that the first work space holds.
 pub const TABLE_WORDS: usize = 6624;
 
+// What closing by AC-4 has (02, request 5): the words of the counts towards a field, five for each field, one for each binary digit of a
+// count; the words of all counts; those of all support sets, one for each setting and field; and a place for each setting.
+pub const COUNTS_WORDS: usize = 120;
+
+pub const COUNTER_WORDS: usize = 2880;
+
+pub const SUPPORT_WORDS: usize = 13824;
+
+pub const LIST_PLACES: usize = 576;
+
 // The most bytes of the text that the program prints: 24 lines of at most 2 + 1 + 24 * (1 + 10) + 1.
 pub const TEXT_BYTES: usize = 6432;

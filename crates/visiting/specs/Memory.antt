@@ -17,12 +17,9 @@ use Rattle.masks.specs.Tests.{never, not-so, bool-cases, and-l, and-r, and-by}
 use Rattle.masks.specs.Bits.{bit, bit-of-zero, bit-ext, Within}
 use Rattle.masks.specs.Words.{bit-and-not}
 use Rattle.masks.specs.Sets.{has, _⊆_}
+use Rattle.removal_list.specs.Moved.{numberOf}
 use Rattle.network.specs.Stored.{Stored, wordsOf, wordsOf-at}
 use Rattle.closing.specs.Shrunk.{zero-or}
-
--- position u of field g as one number, of all settings of all fields
-abbrev numberOf : ℕ → ℕ → ℕ
-numberOf g u = g * mostSettings + u
 
 -- where the masks of position u of field g are: the memory has a mask for each field, for each setting of each field
 abbrev pub placeOf : ℕ → ℕ → ℕ

@@ -9,13 +9,15 @@ ghost use Rattle.masks.specs.Sets.{has, _⊆_};
 ghost use Rattle.masks.specs.Restrict.{restrict};
 ghost use Rattle.network.specs.Tables.{problemOf};
 ghost use Rattle.network.specs.Stored.{Stored, wordsOf};
-ghost use Rattle.closing.specs.Asks.{Masks, LiveAsks};
+ghost use Rattle.closing.specs.Asks.{Masks, LiveAsks, Counted};
 ghost use Rattle.visiting.specs.Memory.{placeOf, recall};
 ghost use Rattle.visiting.specs.Store.{HoodAsks, Store, Checked};
 use closing::test::test;
+use limits::COUNTER_WORDS;
 use limits::FIELDS;
+use limits::LIST_PLACES;
 use limits::SETTINGS;
-use masks::Domains;
+use limits::SUPPORT_WORDS;
 use masks::flood;
 use masks::has_bit;
 use masks::one_bit;
@@ -80,6 +82,10 @@ pub fn check<'a, 'n>(
     f: usize,
     v: usize,
     n: usize,
+    counter: &[u32; COUNTER_WORDS],
+    copy: &mut [u32; COUNTER_WORDS],
+    support: &[u32; SUPPORT_WORDS],
+    list: &mut [u32; LIST_PLACES],
     hood: &'n [u32; FIELDS],
     joined: &'n [u32; FIELDS],
     forward: &'a [u32],
@@ -88,22 +94,36 @@ pub fn check<'a, 'n>(
     requires { ⌜ LiveAsks n (now joined) (now forward) (now turned) (now m)
         × Store (problemOf n (now joined) (now forward) (now turned)) (now hood) (now m) (now known) (now memory) ⌝ }
     requires { ⌜ HoodAsks (problemOf n (now joined) (now forward) (now turned)) (now hood) f × (has (now m) f v ≡ true) ⌝ }
+    requires { ⌜ Counted (problemOf n (now joined) (now forward) (now turned)) (now support) (now counter) (now copy) (now list) (now m) ⌝ }
     ensures { λ r. ⌜ Checked (problemOf n (now (joined .entry)) (now (forward .entry)) (now (turned .entry))) (now (hood .entry))
-        (now (m .entry)) remembers f v r (now (known .exit)) (now (memory .exit)) ⌝ }
+        (now (m .entry)) remembers f v r (now (known .exit)) (now (memory .exit))
+        × Counted (problemOf n (now (joined .entry)) (now (forward .entry)) (now (turned .entry))) (now (support .entry))
+        (now (counter .entry)) (now (copy .exit)) (now (list .exit)) (now (m .entry)) ⌝ }
 {
     if remembers {
         if recalled(m, known, memory, f, v) {
             return true;
         }
     }
-    let masks = *m;
-    let set = Domains { masks };
-    let mut left = set.cut(f, v);
-    if !test(&mut left.masks, n, f, hood[f], joined, forward, turned) {
+    let mut left = *m;
+    if !test(
+        &mut left,
+        n,
+        f,
+        v,
+        hood[f],
+        counter,
+        copy,
+        support,
+        list,
+        joined,
+        forward,
+        turned,
+    ) {
         return false;
     }
     if remembers {
-        remember(memory, hood, f, v, &left.masks);
+        remember(memory, hood, f, v, &left);
         known[f] |= one_bit(v);
     }
     true

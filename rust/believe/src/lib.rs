@@ -46,6 +46,8 @@ const STATEMENTS: &[(&str, &str)] = &[
     ("consistency/specs/Order.antt", "offers-more-selected"),
     ("consistency/specs/Left.antt", "passes-again"),
     ("consistency/specs/Neighbourhood.antt", "neighbourhood-walk neighbourhood-whole"),
+    ("closing/specs/Figure2.antt", "listed-once listed-was-lost initialized-enters-once initialized-nothing-else"),
+    ("closing/specs/Figure2.antt", "pruned-enters-once pruned-nothing-else pruned-counts counted-exact"),
 ];
 
 /// The root of the repository.

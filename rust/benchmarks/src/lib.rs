@@ -1,5 +1,5 @@
-//! The jobs of the library in plain Rust. The tests compare the proved code with it, and the programs `reading`, `engines`, `savings` and
-//! `calls` time both. The program `selections` times the proved code with fewer fields selected.
+//! The jobs of the library in plain Rust. The tests compare the proved code with it, and the programs `reading`, `engines`, `savings`,
+//! `calls` and `closings` time both. The program `selections` times the proved code with fewer fields selected.
 
 #![deny(unsafe_code)]
 

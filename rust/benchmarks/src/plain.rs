@@ -1,5 +1,6 @@
-//! The jobs of the library in plain Rust: sheets read and written, offers found by three ways of closing, whole calls.
+//! The jobs of the library in plain Rust: sheets read and written, offers found by four ways of closing, whole calls.
 
+mod ac4;
 pub mod calls;
 mod closing;
 mod engines;
@@ -7,10 +8,12 @@ mod lanes;
 mod network;
 mod pairs;
 pub mod reading;
+mod tables;
 
-use crate::role::Role;
+use crate::role::{Role, BEFORE};
 use crate::task::Job;
 use crate::{Offers, MOST};
+use ac4::Ac4;
 use closing::Closing;
 use engines::Solver;
 use lanes::Lanes;
@@ -27,13 +30,14 @@ pub type Method = Box<dyn FnMut(&Job) -> Found>;
 
 /// The plain methods for sheets of at most so many fields.
 pub fn methods(fields: usize) -> Vec<(Role, Method)> {
-    let mut all = vec![(Role::Branching, sac1::<Pairs<Branching>>()), (Role::BranchFree, sac1::<Pairs<BranchFree>>())];
-    all.extend(match fields {
-        0..=8 => at_once::<Lanes<8, 3>>(),
-        9..=12 => at_once::<Lanes<12, 4>>(),
-        13..=16 => at_once::<Lanes<16, 4>>(),
-        _ => at_once::<Lanes<24, 4>>(),
-    });
+    let mut all = vec![(Role::Branching, sac1::<Pairs<Branching>>()), (Role::Ac4, sac1::<Ac4>())];
+    all.extend(BEFORE.into_iter().zip(three::<Pairs<BranchFree>>()));
+    all.extend([Role::AtOnce, Role::Sac2, Role::Queue].into_iter().zip(match fields {
+        0..=8 => three::<Lanes<8, 3>>(),
+        9..=12 => three::<Lanes<12, 4>>(),
+        13..=16 => three::<Lanes<16, 4>>(),
+        _ => three::<Lanes<24, 4>>(),
+    }));
     all
 }
 
@@ -42,14 +46,10 @@ fn sac1<C: Closing + 'static>() -> Method {
     Box::new(move |job| solver.sac1(job))
 }
 
-/// SAC-1, SAC-2 and the queue over the fastest way of closing.
-fn at_once<C: Closing + 'static>() -> [(Role, Method); 3] {
+/// SAC-1, SAC-2 and the queue over one way of closing.
+fn three<C: Closing + 'static>() -> [Method; 3] {
     let mut memory = Box::new([[[0; MOST]; MOST]; MOST]);
     let mut sac2 = Solver::<C>::default();
     let mut queue = Solver::<C>::default();
-    [
-        (Role::AtOnce, sac1::<C>()),
-        (Role::Sac2, Box::new(move |job| sac2.sac2(&mut memory, job))),
-        (Role::Queue, Box::new(move |job| queue.queued(job))),
-    ]
+    [sac1::<C>(), Box::new(move |job| sac2.sac2(&mut memory, job)), Box::new(move |job| queue.queued(job))]
 }

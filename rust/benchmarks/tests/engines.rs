@@ -3,7 +3,7 @@
 
 use benchmarks::contestants::engines;
 use benchmarks::measure::agree;
-use benchmarks::role::{Role, PLAIN_SAC1};
+use benchmarks::role::{Role, BEFORE, PLAIN_SAC1};
 use benchmarks::sheets::Class;
 use benchmarks::task::Job;
 use benchmarks::{Domains, Offers, WHOLE_REACH};
@@ -27,8 +27,8 @@ fn random_job(random: &mut Random, sheet: &Sheet) -> Job {
     Job { start: start(random, job.start), order: random.order(sheet.fields()), selected: good(random, sheet.fields()), ..job }
 }
 
-/// What all engines answer, and the tests of SAC-1 and SAC-2. Those of SAC-1 do not depend on the way of closing. SAC-2 makes no more than
-/// the queue, at any reach, and the queue no more than SAC-1.
+/// What all engines answer, and the tests of SAC-1 and SAC-2. The tests do not depend on the way of closing. SAC-2 makes no more than the
+/// queue, at any reach, and the queue no more than SAC-1.
 fn solve(sheet: &Sheet, job: &Job) -> (Offers, [u64; 2]) {
     let mut all = engines(sheet.fields());
     let runs = agree(&mut all, job);
@@ -36,6 +36,7 @@ fn solve(sheet: &Sheet, job: &Job) -> (Offers, [u64; 2]) {
     let tests = |role: Role| runs[place(role)].tests;
     let (sac1, sac2, queue) = (PLAIN_SAC1.map(tests), tests(Role::Sac2), tests(Role::Queue));
     assert!(sac1.iter().all(|&count| count == sac1[0]), "{sac1:?}: {job:?}");
+    assert_eq!(BEFORE.map(tests), [sac1[0], sac2, queue], "{job:?}");
     assert!(sac2 <= queue && queue <= sac1[0], "{sac2}, {queue}, {sac1:?}: {job:?}");
     (runs[0].answer, [sac1[0], sac2])
 }

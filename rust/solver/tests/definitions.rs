@@ -1,7 +1,9 @@
 //! The solver's largest sets against the definitions taken word by word: every subset of a small set is looked at.
 
+mod near;
 mod small;
 
+use near::near;
 use random::Random;
 use small::{settings_of, small_sheet};
 use solver::network::includes;
@@ -35,23 +37,6 @@ fn closed(sheet: &Sheet, set: &Set, fields: &[usize]) -> bool {
         positions(rule.i).all(|v| positions(rule.j).any(|u| sheet.allows(rule, v, u)))
             && positions(rule.j).all(|u| positions(rule.i).any(|v| sheet.allows(rule, v, u)))
     })
-}
-
-/// How many rules away each field is, by paths that grow; none where there is no path.
-fn near(sheet: &Sheet, f: usize) -> Vec<usize> {
-    let mut away = vec![None; sheet.fields()];
-    away[f] = Some(0);
-    for step in 1..sheet.fields() as u32 {
-        for rule in &sheet.rules {
-            for (one, other) in [(rule.i, rule.j), (rule.j, rule.i)] {
-                if away[one] == Some(step - 1) && away[other].is_none() {
-                    away[other] = Some(step);
-                }
-            }
-        }
-    }
-    let whole = sheet.reach == 24;
-    (0..sheet.fields()).filter(|&g| whole || away[g].is_some_and(|step| step <= sheet.reach)).collect()
 }
 
 /// What a passed test leaves.

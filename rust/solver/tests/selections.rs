@@ -1,11 +1,12 @@
 //! What is said of selections, on random sheets with every mask, and with thinned start sets.
 
+mod hard;
 mod small;
 
-use random::Random;
-use small::{settings_of, small_sheet};
+use hard::sheets;
+use small::settings_of;
 use solver::network::includes;
-use solver::{Network, Rule, Set, Sheet};
+use solver::{Network, Set, Sheet};
 
 /// The offers before fields were selected: the largest subset in which every setting passes its test.
 fn former_offers(network: &Network, mut set: Set) -> Set {
@@ -21,38 +22,6 @@ fn former_offers(network: &Network, mut set: Set) -> Set {
 fn closing(network: &Network, set: Set) -> Set {
     let every: Vec<usize> = (0..network.fields()).collect();
     network.closing(set, &every)
-}
-
-/// Four to six fields of two to four settings, with rules under which a setting often has support and fails its test: unequal settings, or
-/// some of the pairs.
-fn hard_sheet(random: &mut Random) -> Sheet {
-    let n = random.from(4, 6);
-    let settings: Vec<Vec<u32>> = (0..n).map(|_| (0..random.from(2, 4) as u32).collect()).collect();
-    let (unequal, joined, allowed) = (random.one_in(2), random.from(4, 9), random.from(4, 8));
-    let mut rules = vec![];
-    for (i, j) in (0..n).flat_map(|i| (i + 1..n).map(move |j| (i, j))) {
-        if random.below(10) >= joined {
-            continue;
-        }
-        let mut mask = || (0..settings[j].len()).filter(|_| random.below(10) < allowed).map(|u| 1 << u).sum();
-        let (kind, numbers) = if unequal { (3, vec![1]) } else { (0, settings[i].iter().map(|_| mask()).collect()) };
-        rules.push(Rule { i, j, kind, numbers });
-    }
-    Sheet { settings, reach: random.pick(&[1, 1, 2, 3, 24]), rules }
-}
-
-/// Random sheets, each with a start set: every setting, or most of them.
-fn sheets(seed: u64, count: usize) -> impl Iterator<Item = (Sheet, Network, Set)> {
-    let mut random = Random(seed);
-    (0..count).map(move |_| {
-        let sheet = if random.one_in(4) { small_sheet(&mut random) } else { hard_sheet(&mut random) };
-        let network = Network::of(&sheet);
-        let mut set = network.full;
-        if random.one_in(3) {
-            set.iter_mut().for_each(|domain| *domain &= (random.word() | random.word()) as u32);
-        }
-        (sheet, network, set)
-    })
 }
 
 /// Every complete set-up in a set: a position for each field.

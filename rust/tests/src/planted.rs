@@ -1,5 +1,6 @@
 //! Libraries with a planted fault, to see that the comparison finds it.
 
+pub mod counting;
 mod fault;
 pub mod offers;
 mod selecting;

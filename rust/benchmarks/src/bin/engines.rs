@@ -28,7 +28,9 @@ impl Measured {
     fn new(class: Class, first_seed: u64, effort: Effort, change: fn(&mut Job)) -> Measured {
         let mut jobs: Vec<Job> = (first_seed..).take(effort.sheets).map(|seed| Job::new(&class.sheet(seed))).collect();
         jobs.iter_mut().for_each(change);
-        let all = measure::Measured::new(&mut engines(class.fields), &jobs, effort.budget);
+        let mut compared = engines(class.fields);
+        compared.retain(|contestant| matches!(contestant.role, Role::Proved(_)) || PLAIN_SAC1.contains(&contestant.role));
+        let all = measure::Measured::new(&mut compared, &jobs, effort.budget);
         let wiped = all.answers.iter().filter(|offers| offers.is_none()).count();
         let offered = |offers: &Offers| share(&offers.unwrap_or_default(), class.fields * class.settings);
         Measured { class, first_seed, wiped, offered: all.answers.iter().map(offered).collect(), all }

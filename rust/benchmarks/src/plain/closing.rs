@@ -1,16 +1,54 @@
-//! What the ways of closing share. Each is AC-3 with a mask of the changed fields.
+//! What the ways of closing share. All but AC-4 are AC-3 with a mask of the changed fields.
 
 use super::network::Network;
-use crate::{Domains, MOST};
+use crate::{Domains, Offers, MOST};
 
-/// A way to close a set by AC-3, with its tables.
+/// A way to close a set, with its tables.
 pub trait Closing: Default {
+    /// Fills the tables from an accepted list of numbers.
+    fn load(&mut self, numbers: &[u32]) -> Network;
+
+    /// Closes the start set over every field; nothing where a field has no setting left.
+    fn start(&mut self, network: &Network, domains: &mut Domains) -> Option<()>;
+
+    /// The singleton test: closes what is left when f is cut to v, over the neighbourhood of f. What it left, or nothing where it fails.
+    fn test(&mut self, network: &Network, domains: &Domains, f: usize, v: usize) -> Offers;
+
+    /// Closes again over every field after v was removed from f, where f has other settings. The fields that lost settings, or nothing
+    /// where one has none left.
+    fn removed(&mut self, network: &Network, domains: &mut Domains, f: usize, v: usize) -> Option<u32>;
+}
+
+/// A way to close a set by AC-3.
+pub trait Ac3: Default {
     /// Fills the tables from an accepted list of numbers.
     fn load(&mut self, numbers: &[u32]) -> Network;
 
     /// Closes the set over the fields of `within`, where only the fields of `changed` may leave a setting without support. The fields
     /// that lost settings, or nothing where one has none left.
     fn close(&self, network: &Network, domains: &mut Domains, within: u32, changed: u32) -> Option<u32>;
+}
+
+impl<C: Ac3> Closing for C {
+    fn load(&mut self, numbers: &[u32]) -> Network {
+        Ac3::load(self, numbers)
+    }
+
+    fn start(&mut self, network: &Network, domains: &mut Domains) -> Option<()> {
+        self.close(network, domains, network.all(), network.all()).map(|_| ())
+    }
+
+    #[inline]
+    fn test(&mut self, network: &Network, domains: &Domains, f: usize, v: usize) -> Offers {
+        let mut cut = *domains;
+        cut[f] = 1 << v;
+        self.close(network, &mut cut, network.hood[f], 1 << f)?;
+        Some(cut)
+    }
+
+    fn removed(&mut self, network: &Network, domains: &mut Domains, f: usize, _: usize) -> Option<u32> {
+        self.close(network, domains, network.all(), 1 << f)
+    }
 }
 
 /// The changed fields. They are taken in sweeps: a field that changes behind the sweep waits for the next one.

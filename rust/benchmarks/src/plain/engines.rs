@@ -20,11 +20,9 @@ impl<C: Closing> Solver<C> {
     /// SAC-1: passes over the fields in the given order, until one changes nothing.
     pub fn sac1(&mut self, job: &Job) -> Found {
         let mut tests = 0;
-        let offers = self.begin(job).and_then(|domains| {
-            self.passes(domains, job, |domains, f, v| {
-                tests += 1;
-                self.test(domains, f, v).is_some()
-            })
+        let offers = self.passes(job, |solver, domains, f, v| {
+            tests += 1;
+            solver.test(domains, f, v).is_some()
         });
         Found { offers, tests }
     }
@@ -33,19 +31,17 @@ impl<C: Closing> Solver<C> {
     pub fn sac2(&mut self, memory: &mut Memory, job: &Job) -> Found {
         let mut tests = 0;
         let mut known = [0; MOST];
-        let offers = self.begin(job).and_then(|domains| {
-            self.passes(domains, job, |domains, f, v| {
-                if known[f] & (1 << v) != 0 && holds(domains, &memory[f][v]) {
-                    return true;
-                }
-                tests += 1;
-                let left = self.test(domains, f, v);
-                if let Some(left) = left {
-                    memory[f][v] = part(&left, self.network.hood[f]);
-                    known[f] |= 1 << v;
-                }
-                left.is_some()
-            })
+        let offers = self.passes(job, |solver, domains, f, v| {
+            if known[f] & (1 << v) != 0 && holds(domains, &memory[f][v]) {
+                return true;
+            }
+            tests += 1;
+            let left = solver.test(domains, f, v);
+            if let Some(left) = left {
+                memory[f][v] = part(&left, solver.network.hood[f]);
+                known[f] |= 1 << v;
+            }
+            left.is_some()
         });
         Found { offers, tests }
     }
@@ -53,7 +49,7 @@ impl<C: Closing> Solver<C> {
     /// The queue method: only fields on the queue are visited, in the given order, and a removal puts fields back.
     pub fn queued(&mut self, job: &Job) -> Found {
         let mut tests = 0;
-        let offers = self.begin(job).and_then(|domains| self.drain(domains, job, &mut tests));
+        let offers = self.drain(job, &mut tests);
         Found { offers, tests }
     }
 
@@ -64,23 +60,24 @@ impl<C: Closing> Solver<C> {
         if domains[..self.network.fields].contains(&0) {
             return None;
         }
-        let all = self.network.all();
-        self.closing.close(&self.network, &mut domains, all, all)?;
+        self.closing.start(&self.network, &mut domains)?;
         Some(domains)
     }
 
-    fn passes(&self, mut domains: Domains, job: &Job, mut passes: impl FnMut(&Domains, usize, usize) -> bool) -> Offers {
+    fn passes(&mut self, job: &Job, mut passes: impl FnMut(&mut Self, &Domains, usize, usize) -> bool) -> Offers {
+        let mut domains = self.begin(job)?;
         let mut changed = true;
         while changed {
             changed = false;
             for f in job.order.iter().map(|&f| usize::from(f)).filter(|f| job.selected & (1 << f) != 0) {
-                changed |= self.visit(&mut domains, f, |domains, v| passes(domains, f, v))? != 0;
+                changed |= self.visit(&mut domains, f, |solver, domains, v| passes(solver, domains, f, v))? != 0;
             }
         }
         Some(domains)
     }
 
-    fn drain(&self, mut domains: Domains, job: &Job, tests: &mut u64) -> Offers {
+    fn drain(&mut self, job: &Job, tests: &mut u64) -> Offers {
+        let mut domains = self.begin(job)?;
         let mut queue = job.selected;
         while queue != 0 {
             for f in job.order.iter().map(|&f| usize::from(f)) {
@@ -88,9 +85,9 @@ impl<C: Closing> Solver<C> {
                     continue;
                 }
                 queue &= !(1 << f);
-                let touched = self.visit(&mut domains, f, |domains, v| {
+                let touched = self.visit(&mut domains, f, |solver, domains, v| {
                     *tests += 1;
-                    self.test(domains, f, v).is_some()
+                    solver.test(domains, f, v).is_some()
                 })?;
                 queue |= put_back(&self.network, touched) & job.selected;
             }
@@ -99,32 +96,28 @@ impl<C: Closing> Solver<C> {
     }
 
     /// Removes each setting of f that does not pass. The fields that lost settings, or nothing where the set is wiped out.
-    fn visit(&self, domains: &mut Domains, f: usize, mut passes: impl FnMut(&Domains, usize) -> bool) -> Option<u32> {
+    fn visit(&mut self, domains: &mut Domains, f: usize, mut passes: impl FnMut(&mut Self, &Domains, usize) -> bool) -> Option<u32> {
         let mut touched = 0;
         for v in members(domains[f]) {
-            if domains[f] & (1 << v) != 0 && !passes(domains, v) {
+            if domains[f] & (1 << v) != 0 && !passes(self, domains, v) {
                 touched |= self.remove(domains, f, v)?;
             }
         }
         Some(touched)
     }
 
-    /// The singleton test: closes what is left when f is cut to v, over the neighbourhood of f. What it left, or nothing where it fails.
     #[inline]
-    fn test(&self, domains: &Domains, f: usize, v: usize) -> Offers {
-        let mut cut = *domains;
-        cut[f] = 1 << v;
-        self.closing.close(&self.network, &mut cut, self.network.hood[f], 1 << f)?;
-        Some(cut)
+    fn test(&mut self, domains: &Domains, f: usize, v: usize) -> Offers {
+        self.closing.test(&self.network, domains, f, v)
     }
 
     /// Removes v from f and closes again over every field. The fields that lost settings, or nothing where the set is wiped out.
-    fn remove(&self, domains: &mut Domains, f: usize, v: usize) -> Option<u32> {
+    fn remove(&mut self, domains: &mut Domains, f: usize, v: usize) -> Option<u32> {
         domains[f] &= !(1 << v);
         if domains[f] == 0 {
             return None;
         }
-        let touched = self.closing.close(&self.network, domains, self.network.all(), 1 << f)?;
+        let touched = self.closing.removed(&self.network, domains, f, v)?;
         Some(touched | 1 << f)
     }
 }

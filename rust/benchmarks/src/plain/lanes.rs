@@ -2,7 +2,7 @@
 //! changed field are revised at once, each in its own lane. The unions of every subset of a group of values are in the table, so that no
 //! branch is left.
 
-use super::closing::{spread, Changed, Closing, BITS};
+use super::closing::{spread, Ac3, Changed, BITS};
 use super::network::{most_settings, Network};
 use crate::{Domains, MOST};
 
@@ -34,7 +34,7 @@ impl<const LANES: usize, const GROUP: usize> Default for Lanes<LANES, GROUP> {
     }
 }
 
-impl<const LANES: usize, const GROUP: usize> Closing for Lanes<LANES, GROUP> {
+impl<const LANES: usize, const GROUP: usize> Ac3 for Lanes<LANES, GROUP> {
     fn load(&mut self, numbers: &[u32]) -> Network {
         let groups = most_settings(numbers).div_ceil(GROUP);
         self.groups = groups;

@@ -1,14 +1,10 @@
 //! Closing with a table for each pair of fields: the neighbours of a changed field are revised one after the other.
 
-use super::closing::{spread, Changed, Closing};
+use super::closing::{spread, Ac3, Changed};
 use super::network::{members, Network};
+use super::tables::{Row, Tables};
 use crate::{Domains, MOST};
 use std::marker::PhantomData;
-
-type Row = [u32; MOST];
-
-/// Places for 32 fields each way: a position in a mask of 32 bits needs no check of bounds.
-const SIDE: usize = 32;
 
 /// The domain of a changed field, in the form that a way of revising needs.
 pub trait Changing: Default {
@@ -36,7 +32,7 @@ impl Changing for Branching {
     }
 }
 
-/// Without a branch, as the proved engines do: each of the first 8 or 24 rows is cut by a word of ones or zeros.
+/// Without a branch, as the proved engines did before AC-4: each of the first 8 or 24 rows is cut by a word of ones or zeros.
 #[derive(Default)]
 pub struct BranchFree {
     words: Row,
@@ -61,16 +57,11 @@ impl Changing for BranchFree {
     }
 }
 
-/// The rows of each pair of fields: row v of (g, f) has the positions of f that position v of g allows.
+/// The tables, with one way of revising.
+#[derive(Default)]
 pub struct Pairs<D> {
-    rows: Box<[Row; SIDE * SIDE]>,
+    tables: Tables,
     domain: PhantomData<D>,
-}
-
-impl<D> Default for Pairs<D> {
-    fn default() -> Self {
-        Pairs { rows: Box::new([[0; MOST]; SIDE * SIDE]), domain: PhantomData }
-    }
 }
 
 impl<D: Changing> Pairs<D> {
@@ -80,7 +71,7 @@ impl<D: Changing> Pairs<D> {
         let mut lost = 0;
         for f in members(near) {
             let old = domains[f];
-            let new = old & changing.union::<ROWS>(&self.rows[g % SIDE * SIDE + f % SIDE]);
+            let new = old & changing.union::<ROWS>(self.tables.rows(g, f));
             if new != old {
                 if new == 0 {
                     return None;
@@ -93,13 +84,9 @@ impl<D: Changing> Pairs<D> {
     }
 }
 
-impl<D: Changing> Closing for Pairs<D> {
+impl<D: Changing> Ac3 for Pairs<D> {
     fn load(&mut self, numbers: &[u32]) -> Network {
-        Network::read(numbers, |rule| {
-            let rows = rule.forward();
-            self.rows[rule.i * SIDE + rule.j] = rows;
-            self.rows[rule.j * SIDE + rule.i] = rule.turned(&rows);
-        })
+        self.tables.load(numbers)
     }
 
     fn close(&self, network: &Network, domains: &mut Domains, within: u32, changed: u32) -> Option<u32> {

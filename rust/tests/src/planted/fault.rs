@@ -86,10 +86,18 @@ pub enum Fault {
     EmptyHeld,
     /// A session whose mask names a field beyond the sheet is taken for well-formed.
     BeyondHeld,
+    /// A count starts too high: allowed partners are counted although they are struck or another is chosen.
+    CountsStruck,
+    /// A setting that has no support when the counts are made is dropped, but not put on the removal list.
+    DroppedUnlisted,
+    /// A setting that is gone enters the removal list again where another of its counts becomes 0.
+    ListedTwice,
+    /// The counts of a test are kept for the main ones.
+    TestCountsKept,
 }
 
 impl Fault {
-    pub const ALL: [Fault; 45] = [
+    pub const ALL: [Fault; 49] = [
         Fault::Restores,
         Fault::RecordsOnly,
         Fault::OnlyCloses,
@@ -135,5 +143,9 @@ impl Fault {
         Fault::BeyondTaken,
         Fault::EmptyHeld,
         Fault::BeyondHeld,
+        Fault::CountsStruck,
+        Fault::DroppedUnlisted,
+        Fault::ListedTwice,
+        Fault::TestCountsKept,
     ];
 }

@@ -1,6 +1,6 @@
 //! Faulty offers.
 
-use super::{Fault, Planted};
+use super::{counting, Fault, Planted};
 use crate::linked::words;
 use crate::sac2::sac2;
 use belaykeel::raw::Arguments;
@@ -24,6 +24,8 @@ impl Planted {
             Fault::StaleMemory if given.engine == 2 => self.weaken(session, &sheet, given),
             Fault::TestsAll | Fault::TestsNone | Fault::TestsAmongSelected => self.weaken(session, &sheet, given),
             Fault::ClosesSelected | Fault::ClosesNearby => self.weaken(session, &sheet, given),
+            Fault::CountsStruck | Fault::DroppedUnlisted => self.weaken(session, &sheet, given),
+            Fault::ListedTwice | Fault::TestCountsKept => self.weaken(session, &sheet, given),
             Fault::PutsBackAll if given.engine == 3 => self.weaken(session, &sheet, given),
             Fault::ShowTestsAll if call == Call::Show => self.weaken(session, &sheet, given),
             Fault::DecidingTestsAll if matches!(call, Call::Choose(..) | Call::Strike(..)) => self.weaken(session, &sheet, given),
@@ -61,7 +63,8 @@ impl Planted {
         let held = ledger(&words(session)).expect("the call was accepted");
         let (selected, all) = (held.selected, sheet.all_fields());
         let every: Vec<usize> = (0..sheet.fields()).collect();
-        let start = network.closing(held.start_set(&network.full), &every);
+        let unclosed = held.start_set(&network.full);
+        let start = network.closing(unclosed, &every);
         let visited: Vec<u8> = given.order.iter().copied().filter(|f| selected >> f & 1 == 1).collect();
         let offers = match self.fault {
             Fault::OnlyCloses => start,
@@ -72,6 +75,9 @@ impl Planted {
             Fault::TestsAmongSelected => testing_among(&network, start, &sheet, selected),
             Fault::ClosesSelected => closing_few(&network, start, &visited, &fields(selected)),
             Fault::ClosesNearby => closing_few(&network, start, &visited, &nearby(&network, selected)),
+            Fault::CountsStruck | Fault::DroppedUnlisted | Fault::ListedTwice | Fault::TestCountsKept => {
+                counting::offers(&sheet, &network, unclosed, &visited, Some(self.fault))
+            }
             Fault::PutsBackAll if network.offers(start, selected) == start => start,
             Fault::TestsAll | Fault::ShowTestsAll | Fault::DecidingTestsAll | Fault::PutsBackAll => network.offers(start, all),
             _ => network.offers(start, selected),

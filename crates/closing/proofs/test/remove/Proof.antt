@@ -1,54 +1,116 @@
--- `remove` loses the setting and closes from its field.
-use mathlib.Core.Path.{sym, _∙_}
+-- `remove` loses the setting, and empties the list.
+use mathlib.Core.Path.{_≡_, sym, _∙_}
+use mathlib.Core.Bool.{false, true≢false}
+use Prim.Native.Nat.{_<_}
 use native.Mathlib.Omega.{arith}
+use borrow.Author.Needs.{needs}
+use Rattle.limits.specs.Limits.{mostFields, mostSettings}
+use Rattle.masks.specs.Settings.{lose, empty}
+use Rattle.removal_list.specs.Moved.{moved-none}
 use Rattle.consistency.specs.Problem.{allFields}
 use Rattle.network.specs.Tables.{problemOf}
-use Rattle.closing.specs.Asks.{place-bound, lose-asks, removed-empty, removed-closed}
-use borrow.Author.Needs.{needs}
+use Rattle.closing.specs.Asks.{place-bound, removed-empty}
+use Rattle.closing.specs.TestAsks.{lose-asks, lose-prune-asks, lose-recover-asks, remove-leaves}
 use Rattle.closing.proofs.test.remove.Statement.{statement}
 use Rattle.closing.proofs.test.remove.Tie as tie
 
-lose-in-requires : tie.Need-lose-in-requires
-lose-in-requires c κs =
-    let s = c .before .before .before in
-    let l = place-bound _ _ _ _ _ (s .pre .0) _ _ (s .pre .1) in
-    (l .1, omega (arith, l .2))
+-- the setting is one of the set
+placed : (s : tie.Start) → (s .args .f < mostFields) × (s .args .v < mostSettings)
+placed s = let l = place-bound _ _ _ _ _ (s .pre .0 .0) _ _ (s .pre .0 .1) in (l .1, l .2)
+
+-- its field keeps another one
+left : (e : tie.Else1) → let s = e .before .before .before .before .before .before .args in
+    empty (lose (s .m .now) (s .f) (s .v)) (s .f) ≡ false
+left e = rw (e .before .before .lose .ensures) at (sym (e .before .is-empty .ensures) ∙ e .if1 .left)
+
+lose-requires : tie.Need-lose-requires
+lose-requires c κs = let l = placed (c .before .before .before) in (l .0, omega (arith, l .1))
+
+is-empty-requires : tie.Need-is-empty-requires
+is-empty-requires c κs = placed (c .before .before .before .before) .0
 
 returns : tie.Need-returns
 returns c =
-    let s = c .before .before .before .before .before in
-    rw (c .before .lose-in .ensures .1)
-    (removed-empty _ _ _ _ _ (s .pre .0) _ _ (s .pre .1) (sym (c .before .lose-in .ensures .0) ∙ c .if1 .taken))
+    let s = c .before .before .before .before .before .before .pre .0 in
+    let z = sym (c .before .is-empty .ensures) ∙ c .if1 .taken in
+    let e = rw (c .before .before .lose .ensures) at z in
+    (removed-empty _ _ _ _ _ (s .0) _ _ (s .1) e, (λ q. absurd (true≢false q)), (0, moved-none _ _ _))
 
-one-bit-requires : tie.Need-one-bit-requires
-one-bit-requires c κs =
-    let s = c .before .before .before .before .before in
-    let l = place-bound _ _ _ _ _ (s .pre .0) _ _ (s .pre .1) in
-    omega (arith, l .1)
+mul-off : tie.Need-mul-off
+mul-off c = omega (arith, placed (c .before .before .before .before .before .before) .0)
+
+element-copy-out-off : tie.Need-element-copy-out-off
+element-copy-out-off c = placed (c .before .before .before .before .before .before) .0
+
+mul-off-2 : tie.Need-mul-off-2
+mul-off-2 c = omega (arith, placed (c .before .before .before .before .before .before .before) .0)
+
+element-copy-out-off-2 : tie.Need-element-copy-out-off-2
+element-copy-out-off-2 c = placed (c .before .before .before .before .before .before .before) .0
+
+move-out-requires : tie.Need-move-out-requires
+move-out-requires c κs =
+    let lost = c .before .before .before .before .before .before in
+    let p = lost .before .before .before .before .pre in
+    rw (lost .lose .ensures) (lose-asks _ _ _ _ _ (p .0 .0) _ _ _ _ (p .1) _ _ (p .0 .1))
 
 all-fields-requires : tie.Need-all-fields-requires
 all-fields-requires c κs = search needs
 
-close-requires : tie.Need-close-requires
+prune-ac-requires : tie.Need-prune-ac-requires
 unfolding allFields problemOf
-close-requires c κs =
-    let branch = c .before .before .before in
-    let lose-in = branch .before in
-    let s = lose-in .before .before .before .before in
-    rw (c .all-fields .ensures, c .before .before .one-bit .ensures, lose-in .lose-in .ensures .1)
-    (lose-asks _ _ _ _ _ (s .pre .0) _ _ (s .pre .1) (sym (lose-in .lose-in .ensures .0) ∙ branch .if1 .left))
+prune-ac-requires c κs =
+    let moved = c .before .before .before .before in
+    let kept = moved .before .before .before .before .before in
+    let p = kept .before .before .before .before .before .before .pre in
+    let m = rw (kept .before .before .lose .ensures) at (moved .move-out .ensures) in
+    rw (c .before .before .all-fields .ensures)
+    (p .0 .0 .wired, lose-prune-asks _ _ _ _ _ (p .0 .0) _ _ _ _ (p .1) _ _ (p .0 .1) (left kept) _ _ _ (m .0) (m .1))
+
+recover-requires : tie.Need-recover-requires
+unfolding allFields problemOf
+recover-requires c κs =
+    let pruned = c .before .before in
+    let fields = pruned .before .before .before in
+    let moved = fields .before .before in
+    let kept = moved .before .before .before .before .before in
+    let p = kept .before .before .before .before .before .before .pre in
+    let m = rw (kept .before .before .lose .ensures) at (moved .move-out .ensures) in
+    lose-recover-asks _ _ _ _ _ (p .0 .0) _ _ _ _ (p .1) _ _ (p .0 .1) (left kept) _ _ _ (m .0) (m .1)
+    _ _ _ _ _ _ _ (rw (fields .all-fields .ensures) at (pruned .prune-ac .ensures))
+
+one-bit-requires : tie.Need-one-bit-requires
+one-bit-requires c κs =
+    let kept = c .before .before .before .before .before .before .before .before .before .before .before .before .before in
+    omega (arith, placed (kept .before .before .before .before .before .before) .0)
 
 returns-2 : tie.Need-returns-2
 unfolding allFields problemOf
 returns-2 c =
-    let bit-set = c .before .before .before .before in
-    let lose-in = bit-set .before .before in
-    let s = lose-in .before .before .before .before in
-    rw (bit-set .one-bit .ensures)
-    (removed-closed _ _ _ _ _ (s .pre .0) _ _ (s .pre .1) _ _ _
-    (rw (c .before .before .all-fields .ensures, lose-in .lose-in .ensures .1) at (c .before .close .ensures)))
+    let pruned = c .before .before .before .before .before in
+    let fields = pruned .before .before .before in
+    let moved = fields .before .before in
+    let kept = moved .before .before .before .before .before in
+    let p = kept .before .before .before .before .before .before .pre in
+    let m = rw (kept .before .before .lose .ensures) at (moved .move-out .ensures) in
+    rw (c .before .one-bit .ensures)
+    (remove-leaves _ _ _ _ _ (p .0 .0) _ _ _ _ (p .1) _ _ (p .0 .1) (left kept) _ _ _ (m .0) (m .1)
+    _ _ _ _ _ _ _ (rw (fields .all-fields .ensures) at (pruned .prune-ac .ensures)) _ (c .before .before .recover .ensures))
 
 pub remove-spec : {M : Type 1} → statement M
 remove-spec =
     tie.close
-    (tie.spec lose-in-requires returns one-bit-requires all-fields-requires close-requires returns-2)
+    (tie.spec
+    lose-requires
+    is-empty-requires
+    returns
+    mul-off
+    element-copy-out-off
+    mul-off-2
+    element-copy-out-off-2
+    move-out-requires
+    all-fields-requires
+    prune-ac-requires
+    recover-requires
+    one-bit-requires
+    returns-2)

@@ -1,7 +1,7 @@
--- `begin` looks for an empty field, and closes from every field.
+-- `begin` looks for an empty field, and closes.
 use mathlib.Core.Path.{sym, _∙_}
+use mathlib.Core.Bool.{true≢false}
 use borrow.Author.Needs.{needs}
-use Rattle.consistency.specs.Problem.{allFields}
 use Rattle.network.specs.Tables.{problemOf}
 use Rattle.engines.specs.Engine.{begun-empty, begun-closed}
 use Rattle.engines.specs.EngineAsks.{start-asks}
@@ -13,26 +13,20 @@ some-empty-requires c κs = search needs
 
 returns : tie.Need-returns
 unfolding problemOf
-returns c = begun-empty _ _ (sym (c .before .some-empty .ensures) ∙ c .if1 .taken)
-
-all-fields-requires : tie.Need-all-fields-requires
-all-fields-requires c κs = search needs
+returns c = (begun-empty _ _ (sym (c .before .some-empty .ensures) ∙ c .if1 .taken), λ e. absurd (true≢false e))
 
 close-requires : tie.Need-close-requires
-unfolding allFields problemOf
 close-requires c κs =
-    let all = c .before .before .before in
-    let looked = all .before .before in
-    rw (all .all-fields .ensures)
-    (start-asks _ _ _ _ _ (looked .before .before .before .before .pre) (sym (looked .some-empty .ensures) ∙ all .before .if1 .left))
+    let branch = c .before .before .before .before .before .before .before in
+    let p = branch .before .before .before .before .before .pre in
+    start-asks _ _ _ _ _ _ _ _ _ (p .0) (p .1) (sym (branch .before .some-empty .ensures) ∙ branch .if1 .left)
 
 returns-2 : tie.Need-returns-2
-unfolding allFields problemOf
 returns-2 c =
-    let all = c .before .before .before .before in
-    let s = all .before .before .before .before .before .before in
-    begun-closed _ _ (s .pre .on) _ _ _ (rw (all .all-fields .ensures) at (c .close .ensures))
+    let p = c .before .before .before .before .before .before .before .before .before .before .before .before .before .pre in
+    let r = c .close .ensures in
+    (begun-closed _ _ (p .0 .on) _ _ _ (r .0), r .1)
 
 pub begin-spec : {M : Type 1} → statement M
 begin-spec =
-    tie.close (tie.spec some-empty-requires returns all-fields-requires close-requires returns-2)
+    tie.close (tie.spec some-empty-requires returns close-requires returns-2)

@@ -1,0 +1,3 @@
+-- Counts of supports in binary, as sets of settings.
+pub mod Digits
+pub mod Counts

@@ -1,0 +1,123 @@
+//! SAC-1 over AC-4 with a fault: Figure 2 of source document 004 in plain numbers.
+
+use super::Fault;
+use solver::{Network, Set, Sheet, MOST};
+use std::collections::{BTreeMap, VecDeque};
+
+/// A field and a position.
+type Setting = (usize, usize);
+
+fn positions(mask: u32) -> impl Iterator<Item = usize> {
+    (0..MOST).filter(move |v| mask >> v & 1 == 1)
+}
+
+/// The mask of a field's neighbourhood.
+fn neighbourhood(network: &Network, reach: u32, f: usize) -> u32 {
+    let every = (1 << network.fields()) - 1;
+    let wider = |near: u32| positions(every).filter(|&g| positions(near).any(|h| h == g || network.joined(h, g))).map(|g| 1 << g).sum();
+    if reach == 24 {
+        every
+    } else {
+        (0..reach).fold(1 << f, |near, _| wider(near))
+    }
+}
+
+/// What closing alters: the set, Counter[(i, j), a] and the removal list.
+#[derive(Clone)]
+struct State {
+    set: Set,
+    counter: BTreeMap<(usize, usize, usize), i32>,
+    list: VecDeque<Setting>,
+}
+
+impl State {
+    /// Takes a setting from the set and puts it on the list.
+    fn move_out(&mut self, (f, v): Setting) {
+        self.set[f] &= !(1 << v);
+        self.list.push_back((f, v));
+    }
+}
+
+/// A sheet with the support sets of its settings, and the fault; none is no fault.
+struct Ac4<'a> {
+    sheet: &'a Sheet,
+    network: &'a Network,
+    support: BTreeMap<Setting, Vec<Setting>>,
+    fault: Option<Fault>,
+}
+
+impl Ac4<'_> {
+    fn has(&self, fault: Fault) -> bool {
+        self.fault == Some(fault)
+    }
+
+    /// Makes the counts and the support sets.
+    fn initialize_ac(&mut self, set: Set) -> State {
+        let mut state = State { set, counter: [].into(), list: [].into() };
+        for rule in &self.sheet.rules {
+            for (i, j) in [(rule.i, rule.j), (rule.j, rule.i)] {
+                for a in positions(state.set[i]) {
+                    let others = if self.has(Fault::CountsStruck) { self.network.full[j] } else { state.set[j] };
+                    let allowed = |&b: &usize| if i == rule.i { self.sheet.allows(rule, a, b) } else { self.sheet.allows(rule, b, a) };
+                    let partners: Vec<usize> = positions(others).filter(allowed).collect();
+                    partners.iter().for_each(|&b| self.support.entry((j, b)).or_default().push((i, a)));
+                    if partners.is_empty() && self.has(Fault::DroppedUnlisted) {
+                        state.set[i] &= !(1 << a);
+                    } else if partners.is_empty() {
+                        state.move_out((i, a));
+                    } else {
+                        state.counter.insert((i, j, a), partners.len() as i32);
+                    }
+                }
+            }
+        }
+        state
+    }
+
+    /// Empties the list. Only settings of the fields `within` are dropped.
+    fn prune_ac(&self, state: &mut State, within: u32) {
+        while let Some((j, b)) = state.list.pop_front() {
+            for &(i, a) in self.support.get(&(j, b)).into_iter().flatten() {
+                let count = state.counter.get_mut(&(i, j, a)).expect("a count for each setting of a support set");
+                *count -= 1;
+                let unmarked = state.set[i] >> a & 1 == 1 || self.has(Fault::ListedTwice);
+                if *count == 0 && unmarked && within >> i & 1 == 1 {
+                    state.move_out((i, a));
+                }
+            }
+        }
+    }
+
+    /// Whether a setting passes its test, on a copy.
+    fn passes(&self, state: &mut State, (f, v): Setting) -> bool {
+        let mut copy = state.clone();
+        positions(state.set[f]).filter(|&a| a != v).for_each(|a| copy.move_out((f, a)));
+        self.prune_ac(&mut copy, neighbourhood(self.network, self.sheet.reach, f));
+        let passed = !self.network.wiped_out(&copy.set);
+        if self.has(Fault::TestCountsKept) {
+            state.counter = copy.counter;
+        }
+        passed
+    }
+}
+
+/// The offers of a start set.
+pub fn offers(sheet: &Sheet, network: &Network, start: Set, visited: &[u8], fault: Option<Fault>) -> Set {
+    let mut ac4 = Ac4 { sheet, network, support: [].into(), fault };
+    let mut state = ac4.initialize_ac(start);
+    ac4.prune_ac(&mut state, sheet.all_fields());
+    loop {
+        let before = state.set;
+        for f in visited.iter().map(|&f| usize::from(f)) {
+            for v in positions(before[f]) {
+                if state.set[f] >> v & 1 == 1 && !ac4.passes(&mut state, (f, v)) {
+                    state.move_out((f, v));
+                    ac4.prune_ac(&mut state, sheet.all_fields());
+                }
+            }
+        }
+        if state.set == before {
+            return state.set;
+        }
+    }
+}
