@@ -11,7 +11,7 @@ use Rattle.masks.specs.Bits.{bit, bit-of-zero, Within}
 use Rattle.masks.specs.Masks.{digit}
 use Rattle.masks.specs.Words.{clear, clear-within, clear-same, clear-other}
 use Rattle.masks.specs.Sets.{has}
-use Rattle.counter.specs.Counts.{countAt, OnlyTowards, Raised}
+use Rattle.counter.specs.Counts.{countAt, OnlyFirst, Raised, only-towards}
 use Rattle.consistency.specs.Problem.{Problem}
 use Rattle.closing.specs.Counting.{howMany, countBelow-cong, countBelow-none, countBelow-most, countBelow-one}
 use Rattle.closing.specs.Supports.{supports}
@@ -23,7 +23,7 @@ pub record CountsMade (S : List ℕ) (j own wide : ℕ) (C : List ℕ) (left : �
   pub lefts : Within left own
   pub here : ((i a : ℕ) → i < wide → countAt C j i a ≡ 0) → (i a : ℕ) → i < wide
       → countAt R j i a ≡ howMany (λ b. (bit own b && not (bit left b)) && supports S j b i a)
-  pub there : OnlyTowards j C R
+  pub there : OnlyFirst j wide C R
 
 module _ (S : List ℕ) (j own wide : ℕ) (C : List ℕ) where
   pub made-start : CountsMade S j own wide C own C
@@ -82,5 +82,5 @@ module _ (P : Problem) (few : P .fields ≤ mostFields) (D S S0 : List ℕ) (j :
         (λ x. and-r (bit (getD D j 0) b && not (bit 0 b)) _ x)
         (λ x. let y = and-r (P .joined j i) _ (sym (r .here b i a h l) ∙ x) in
         and-by _ _ (and-by _ _ (and-l (bit (getD D j 0) b) _ y) (ap not (bit-of-zero b))) x));
-    there = p .there;
+    there = only-towards C R j (P .fields) few (p .there);
   }

@@ -10,16 +10,16 @@ use native.Mathlib.Omega.{arith}
 use lib.Bits.{bitAnd, bitOr}
 use lib.Dec.{eqb}
 use lib.ListN.{length, getD}
-use borrow.Author.Tests.{eqb-true, eq-eqb, ne-eqb}
+use borrow.Author.Tests.{eqb-true, eq-eqb, ne-eqb, not-false}
 use Rattle.limits.specs.Limits.{mostFields, listPlaces}
-use Rattle.masks.specs.Tests.{never, not-so, bool-cases, eq-cases, and-l, and-by}
+use Rattle.masks.specs.Tests.{never, not-so, bool-cases, eq-cases, and-l, and-r, and-by, or-l, or-r, or-at}
 use Rattle.masks.specs.Bits.{bit, bit-of-zero, bit-ext, bit-some, bit-bound, Within}
-use Rattle.masks.specs.Words.{bit-and, bit-one, clear, clear-within, clear-same, clear-other}
+use Rattle.masks.specs.Words.{bit-and, bit-or, bit-one, clear, clear-within, clear-same, clear-other}
 use Rattle.masks.specs.Sets.{has, has-ext, _⊆_, ⊆-mask, only, has-only, length-only, count}
 use Rattle.masks.specs.Settings.{empty, empty-at, empty-by, empty-not}
 use Rattle.removal_list.specs.Count.{Small}
 use Rattle.removal_list.specs.Moved.{Moved, moved-none, moved-then, without, has-without, length-without}
-use Rattle.closing.specs.Shrunk.{zero-or, or-within, one-within, small-⊆, Shrunk, shrunk-none, shrunk-then}
+use Rattle.closing.specs.Shrunk.{or-within, one-within, small-⊆, Shrunk, shrunk-none, shrunk-then}
 
 -- the fields of near without the settings of `none`
 unfoldable pub dropped : ℕ → List ℕ → List ℕ → List ℕ
@@ -28,10 +28,6 @@ dropped near none D = only (λ f a. not (bit near f && has none f a)) D
 pub has-dropped : (near : ℕ) (none D : List ℕ) (f a : ℕ) → has (dropped near none D) f a ≡ (has D f a && not (bit near f && has none f a))
 unfolding dropped
 has-dropped near none D f a = has-only _ D f a
-
--- no setting of the first k fields is in both
-abbrev pub Apart : List ℕ → List ℕ → ℕ → Type 0
-Apart D none k = (f a : ℕ) → f < k → has D f a ≡ true → has none f a ≡ false
 
 -- the settings of the first k fields that are in both, by their positions
 unfoldable pub bothBelow : ℕ → List ℕ → List ℕ → ℕ
@@ -46,15 +42,42 @@ pub both-next : (k : ℕ) (D none : List ℕ) → bothBelow (k + 1) D none ≡ b
 unfolding bothBelow
 both-next k D none = rw add-one
 
-pub both-apart : (k : ℕ) (D none : List ℕ) → bothBelow k D none ≡ 0 → Apart D none k
+both-at : (k a : ℕ) (D none : List ℕ) → bit (bothBelow k D none) a ≡ true
+    → (f : ℕ) × (f < k) × (has D f a ≡ true) × (has none f a ≡ true)
 unfolding bothBelow has
-both-apart zero D none z f a l e = absurd (omega arith)
-both-apart (suc k) D none z f a l e =
-    let q = zero-or (bothBelow k D none) (bitAnd (getD D k 0) (getD none k 0)) z in
+both-at zero a D none e = absurd (never e (bit-of-zero a))
+both-at (suc k) a D none e =
     ⊎-elim
-    (λ (x : f ≡ k). rw x (not-so (bit (getD none k 0) a) (λ y.
-    never (bit-and (getD D k 0) (getD none k 0) a ∙ and-by _ _ (rw x at e) y) (ap (λ (m : ℕ). bit m a) (q .1) ∙ bit-of-zero a))))
-    (λ x. both-apart k D none (q .0) f a x e) (eq-or-lt-of-le (le-of-suc-le-suc l))
+    (λ x. let r = both-at k a D none x in let l = r .1 in (r .0, omega arith, r .2, r .3))
+    (λ x. let y = sym (bit-and (getD D k 0) (getD none k 0) a) ∙ x in (k, omega arith, and-l _ _ y, and-r (bit (getD D k 0) a) _ y))
+    (or-at (bit (bothBelow k D none) a) _ (sym (bit-or (bothBelow k D none) (bitAnd (getD D k 0) (getD none k 0)) a) ∙ e))
+
+both-by : (k a : ℕ) (D none : List ℕ) (f : ℕ) → f < k → has D f a ≡ true → has none f a ≡ true → bit (bothBelow k D none) a ≡ true
+unfolding bothBelow has
+both-by zero a D none f l x y = absurd (omega arith)
+both-by (suc k) a D none f l x y =
+    bit-or (bothBelow k D none) (bitAnd (getD D k 0) (getD none k 0)) a
+    ∙ ⊎-elim
+    (λ (q : f ≡ k). or-r (bit (bothBelow k D none) a) _ (bit-and (getD D k 0) (getD none k 0) a ∙ and-by _ _ (rw q at x) (rw q at y)))
+    (λ q. or-l _ _ (both-by k a D none f q x y)) (eq-or-lt-of-le (le-of-suc-le-suc l))
+
+-- whether a setting of the first k fields is in both
+unfoldable pub meets : ℕ → List ℕ → List ℕ → Bool
+meets k D none = not (eqb (bothBelow k D none) 0)
+
+pub meets-at : (k : ℕ) (D none : List ℕ) → meets k D none ≡ true
+    → (f : ℕ) × (a : ℕ) × (f < k) × (has D f a ≡ true) × (has none f a ≡ true)
+unfolding meets
+meets-at k D none e =
+    let b = bit-some (bothBelow k D none) (λ z. never e (ap not (eq-eqb _ 0 z))) in
+    let r = both-at k (b .0) D none (b .1) in
+    (r .0, b .0, r .1, r .2, r .3)
+
+pub meets-not : (k : ℕ) (D none : List ℕ) → meets k D none ≡ false → (f a : ℕ) → f < k → has D f a ≡ true → has none f a ≡ false
+unfolding meets
+meets-not k D none e f a l x =
+    not-so (has none f a) (λ y. never (both-by k a D none f l x y)
+    (ap (λ (m : ℕ). bit m a) (eqb-true (bothBelow k D none) 0 (not-false _ e)) ∙ bit-of-zero a))
 
 -- one field lost settings
 pub shrunk-without : (D : List ℕ) (i gone : ℕ) → Within gone (getD D i 0) → (gone ≡ 0 → ⊥) → Shrunk D (without D i gone) (2 ^ i)

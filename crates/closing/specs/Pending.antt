@@ -15,7 +15,7 @@ use Rattle.masks.specs.Bits.{bit-bound}
 use Rattle.masks.specs.Masks.{digit}
 use Rattle.masks.specs.Sets.{has, _⊆_, ⊆-trans, ⊆-antisymm, has-only}
 use Rattle.masks.specs.Settings.{lose, lose-⊆, lose-by, lose-at}
-use Rattle.counter.specs.Counts.{countAt, Lowered, other-count}
+use Rattle.counter.specs.Counts.{countAt, Lowered, other-count, only-towards}
 use Rattle.removal_list.specs.Count.{Small}
 use Rattle.removal_list.specs.Moved.{numberOf, number-same, Moved}
 use Rattle.closing.specs.Counting.{howMany, countBelow-cong, countBelow-one}
@@ -110,7 +110,7 @@ module _ (n : ℕ) (S C Q : List ℕ) (c : Counts n S C Q) (j b : ℕ) (ln : j <
       ∙ ap (λ (x : Bool). howMany (λ u. has (lose Q j b) j u && supports S j u i a) + digit x)
       (ap (λ (x : Bool). x && supports S j b i a) there ∙ sym (set-of i a l))
 
-  module _ (wide : ℕ) (w : n ≤ wide) (none R : List ℕ) (r : Lowered C j s wide none R) where
+  module _ (wide : ℕ) (w : n ≤ wide) (most : wide ≤ mostFields) (none R : List ℕ) (r : Lowered C j s wide none R) where
     -- a count is not 0 where it is lowered
     pub count-lowered : (i a : ℕ) → i < n → countAt R j i a + digit (has s i a) ≡ countAt C j i a
     count-lowered i a l =
@@ -121,7 +121,7 @@ module _ (n : ℕ) (S C Q : List ℕ) (c : Counts n S C Q) (j b : ℕ) (ln : j <
       sized = r .sized ∙ c .sized;
       each = λ g i a x y. ⊎-elim
           (λ q. rw q (let z = count-lowered i a y in let u = c .each j i a ln y in let v = count-without i a y in omega arith))
-          (λ q. other-count C R j g i a (r .there) q (omega arith) ∙ c .each g i a x y
+          (λ q. other-count C R j g i a (only-towards C R j wide most (r .there)) q (omega arith) ∙ c .each g i a x y
           ∙ countBelow-cong mostSettings _ _ (λ u _. ap (λ (z : Bool). z && supports S g u i a) (sym (lost-there g u q))))
           (eq-cases g j);
     }

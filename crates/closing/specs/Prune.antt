@@ -16,7 +16,7 @@ use Rattle.masks.specs.Words.{bit-one}
 use Rattle.masks.specs.Masks.{digit}
 use Rattle.masks.specs.Sets.{has, _⊆_, count}
 use Rattle.masks.specs.Settings.{lose, lose-⊆, length-lose, empty, empty-at, empty-by}
-use Rattle.counter.specs.Counts.{countAt, Lowered, other-count}
+use Rattle.counter.specs.Counts.{countAt, OnlyTowards, Lowered, other-count, only-towards}
 use Rattle.removal_list.specs.Count.{Small, count-most}
 use Rattle.removal_list.specs.Moved.{numberOf, Moved, moved-none, moved-then}
 use Rattle.consistency.specs.Problem.{Problem, In}
@@ -190,7 +190,10 @@ module _ (P : Problem) (W : ℕ) (S : List ℕ) where
 
         module _ (k : h < t) (j b : ℕ) (small-b : b < mostSettings) (e : getD L h 0 ≡ numberOf j b) (gone : has D j b ≡ false)
             (x : In P W j) (s : List ℕ) (set-of : (i u : ℕ) → i < P .fields → has s i u ≡ supports S j b i u)
-            (wide : ℕ) (w : P .fields ≤ wide) (none R : List ℕ) (r : Lowered C j s wide none R) where
+            (wide : ℕ) (w : P .fields ≤ wide) (most : wide ≤ mostFields) (none R : List ℕ) (r : Lowered C j s wide none R) where
+          towards : OnlyTowards j C R
+          towards = only-towards C R j wide most (r .there)
+
           abbrev rest : List ℕ
           rest = lose (p .counted) j b
 
@@ -204,7 +207,7 @@ module _ (P : Problem) (W : ℕ) (S : List ℕ) where
           taken = pending-take D (p .counted) L h t (p .pending) j b k small-b e gone (p .small) once
 
           counts-now : Counts (P .fields) S R rest
-          counts-now = counts-take (P .fields) S C (p .counted) (p .counts) j b (x .0) small-b there (a .few) s set-of wide w none R r
+          counts-now = counts-take (P .fields) S C (p .counted) (p .counts) j b (x .0) small-b there (a .few) s set-of wide w most none R r
 
           zero-none : (i u : ℕ) → i < P .fields → has none i u ≡ true → countAt R j i u ≡ 0
           zero-none i u y z = eqb-true (countAt R j i u) 0 (and-r (has s i u) _ (sym (r .zero i u (omega arith)) ∙ z))
@@ -216,7 +219,7 @@ module _ (P : Problem) (W : ℕ) (S : List ℕ) where
           frame-now = record {
             same = λ g y q m i.
                 let n = or-not spent (2 ^ j) g y in
-                r .there q (apart g q m i (λ z. never (bit-one j g ∙ eq-eqb g j z) (n .1))) ∙ p .frame .same g (n .0) q m i;
+                towards q (apart g q m i (λ z. never (bit-one j g ∙ eq-eqb g j z) (n .1))) ∙ p .frame .same g (n .0) q m i;
           }
             where
               apart : (g q : ℕ) → g * countsWords ≤ q → q < g * countsWords + countsWords → (g ≡ j → ⊥)
@@ -254,7 +257,7 @@ module _ (P : Problem) (W : ℕ) (S : List ℕ) where
             positive-now : Positive P W R (dropped near none D)
             positive-now i g v y z m n = ⊎-elim
                 (λ (q : g ≡ j). rw q (here (rw q at m)))
-                (λ q. rw (other-count C R j g i v (r .there) q (let c = y .0 in let d = a .few in omega arith))
+                (λ q. rw (other-count C R j g i v towards q (let c = y .0 in let d = a .few in omega arith))
                 (p .positive i g v y z m there-still))
                 (eq-cases g j)
               where
@@ -268,7 +271,7 @@ module _ (P : Problem) (W : ℕ) (S : List ℕ) where
                 here : P .joined i j ≡ true → 0 < countAt R j i v
                 here c =
                     let o = left-out (near-by i y c) in
-                    let f = count-lowered _ S C _ (p .counts) j b (x .0) small-b there (a .few) s set-of wide w none R r i v (y .0) in
+                    let f = count-lowered _ S C _ (p .counts) j b (x .0) small-b there (a .few) s set-of wide w most none R r i v (y .0) in
                     let q = p .positive i j v y x c there-still in
                     ⊎-elim
                     (λ d. ⊎-elim (λ t. absurd (never (r .zero i v (let c = y .0 in omega arith) ∙ and-by _ _ d t) o))

@@ -18,35 +18,26 @@ use Rattle.removal_list.specs.Moved.{numberOf}
 use Rattle.consistency.specs.Problem.{Problem, In, in-allFields}
 use Rattle.network.specs.Tables.{problemOf, Wired}
 use Rattle.closing.specs.Supports.{supports}
-use Rattle.closing.specs.Drop.{Apart, Dropped, dropped-none}
+use Rattle.closing.specs.Drop.{meets, meets-not, Dropped, dropped-none}
 use Rattle.closing.specs.Prune.{PruneAsks, Pruned, Pruning, places-enough, set-sized, set-small, head-setting}
 use Rattle.closing.specs.Prune.{turn-none, turn-next}
 use Rattle.closing.specs.Record.{SetOf, set-has}
 use Rattle.closing.specs.Asks.{fields-small}
 
 -- The counts towards j of the support set with number x are lowered in the first `wide` fields; `none` are those of its settings whose
--- count is 0 then, and where not `some` none of them is in D.
+-- count is 0 then, and `some` is whether one of them is in D.
 pub record SetLowered (D C S : List ℕ) (x j wide : ℕ) (some : Bool) (none R : List ℕ) : Type 0 where
   pub set-of-x : List ℕ
   pub is-set : SetOf S x mostFields set-of-x
   pub lowered : Lowered C j set-of-x wide none R
-  pub apart : some ≡ false → Apart D none wide
+  pub met : some ≡ meets wide D none
 
--- in fewer fields
-pub fewer-lowered : {D C S : List ℕ} {x j wide : ℕ} {some : Bool} {none R : List ℕ} (n : ℕ) → n ≤ wide
-    → SetLowered D C S x j wide some none R → SetLowered D C S x j n some none R
-fewer-lowered n l s = record {
-  set-of-x = s .set-of-x;
-  is-set = s .is-set;
-  lowered = let r = s .lowered in record {
-    sized = r .sized;
-    long = r .long;
-    less = λ i a h. r .less i a (omega arith);
-    zero = λ i a h. r .zero i a (omega arith);
-    there = r .there;
-  };
-  apart = λ e f a h. s .apart e f a (omega arith);
-}
+-- The same in the first n fields at least.
+pub record EnoughLowered (D C S : List ℕ) (x j n : ℕ) (some : Bool) (none R : List ℕ) : Type 0 where
+  pub wide : ℕ
+  pub enough : n ≤ wide
+  pub most : wide ≤ mostFields
+  pub done : SetLowered D C S x j wide some none R
 
 module _ (n : ℕ) (joined forward turned : List ℕ) (wired : Wired n joined forward turned) (W : ℕ) (S D1 L1 : List ℕ) (t1 : ℕ) (C1 : List ℕ)
     (a : PruneAsks (problemOf n joined forward turned) W S D1 L1 t1 C1) (h changed spent : ℕ) (D L : List ℕ) (t : ℕ) (C : List ℕ)
@@ -116,7 +107,10 @@ module _ (n : ℕ) (joined forward turned : List ℕ) (wired : Wired n joined fo
   unfolding problemOf
   near-by f i e = bit-and (getD joined j 0) W f ∙ and-by _ _ (wired .symmetric .joins j f ∙ e) (i .1)
 
-  module _ (some : Bool) (none R : List ℕ) (r : SetLowered D C S x j n some none R) where
+  module _ (some : Bool) (none R : List ℕ) (enough : EnoughLowered D C S x j n some none R) where
+    abbrev r : SetLowered D C S x j (enough .wide) some none R
+    r = enough .done
+
     set-of : (i v : ℕ) → i < P .fields → has (r .set-of-x) i v ≡ supports S (getD L h 0 / mostSettings) b i v
     unfolding problemOf
     set-of i v l = set-has S j b (r .set-of-x) (rw (sym (head-is .1)) (r .is-set)) i v (let f = wired .few in omega arith)
@@ -127,20 +121,23 @@ module _ (n : ℕ) (joined forward turned : List ℕ) (wired : Wired n joined fo
       unfolding problemOf
       pruned-none d any =
           turn-none P W S D1 L1 t1 C1 a h changed spent D L t C p k j b (head-is .0) (head-is .1) (head-is .2) (head-is .3)
-          (r .set-of-x) set-of n (le-refl n) none R (r .lowered) near near-at near-by Q K u lost d any
+          (r .set-of-x) set-of (enough .wide) (enough .enough) (enough .most) none R (r .lowered) near near-at near-by Q K u lost d any
 
       pub pruned-next : Dropped near none D L t false lost Q K u
           → Pruning P W S D1 L1 t1 C1 (h + 1) (bitOr changed lost) (bitOr spent (2 ^ j)) Q K u R
       unfolding problemOf
       pruned-next d =
           turn-next P W S D1 L1 t1 C1 a h changed spent D L t C p k j b (head-is .0) (head-is .1) (head-is .2) (head-is .3)
-          (r .set-of-x) set-of n (le-refl n) none R (r .lowered) near near-at near-by Q K u lost d
+          (r .set-of-x) set-of (enough .wide) (enough .enough) (enough .most) none R (r .lowered) near near-at near-by Q K u lost d
 
     -- none of them is there
     pub pruned-same : some ≡ false → Pruning P W S D1 L1 t1 C1 (h + 1) changed (bitOr spent (2 ^ j)) D L t R
     pruned-same e =
         rw (sym (or-zero-r changed))
-        (pruned-next D L t 0 (dropped-none near none D L t (λ f v i. r .apart e f v (near-field f i))))
+        (pruned-next D L t 0 (dropped-none near none D L t (λ f v i. meets-not (enough .wide) D none (sym (r .met) ∙ e) f v (near-field f i))))
       where
-        near-field : (f : ℕ) → bit (bitAnd (getD joined (getD L h 0 / mostSettings) 0) W) f ≡ true → f < n
-        near-field f i = wired .ends j f (and-l _ (bit W f) (sym (bit-and (getD joined j 0) W f) ∙ i)) .1
+        near-field : (f : ℕ) → bit (bitAnd (getD joined (getD L h 0 / mostSettings) 0) W) f ≡ true → f < enough .wide
+        near-field f i =
+            let l = wired .ends j f (and-l _ (bit W f) (sym (bit-and (getD joined j 0) W f) ∙ i)) .1 in
+            let w = enough .enough in
+            omega arith

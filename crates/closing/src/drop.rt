@@ -1,12 +1,11 @@
 // Settings without a count leave the set and enter the removal list.
 ghost use mathlib.Core.Path.{_≡_};
-ghost use mathlib.Core.Bool.{false};
 ghost use Prim.Native.Nat.{_+_, _^_, _≤_, _<_};
 ghost use lib.ListN.{length};
 ghost use Rattle.limits.specs.Limits.{mostFields, listPlaces};
 ghost use Rattle.masks.specs.Sets.{count};
 ghost use Rattle.removal_list.specs.Count.{Small};
-ghost use Rattle.closing.specs.Drop.{Dropped, Apart};
+ghost use Rattle.closing.specs.Drop.{Dropped, meets};
 use limits::FIELDS;
 use limits::LIST_PLACES;
 use masks::clear_bit;
@@ -24,7 +23,7 @@ pub struct AfterDrop {
 // Whether a setting of the first `wide` fields is in both sets.
 pub fn meet(d: &[u32; FIELDS], none: &[u32; FIELDS], wide: usize) -> bool
     requires { ⌜ wide ≤ mostFields ⌝ }
-    ensures { λ r. ⌜ (r ≡ false → Apart (now (d .entry)) (now (none .entry)) wide) ⌝ }
+    ensures { λ r. ⌜ r ≡ meets wide (now (d .entry)) (now (none .entry)) ⌝ }
 {
     let mut both: u32 = 0;
     let mut i: usize = 0;

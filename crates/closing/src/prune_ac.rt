@@ -6,7 +6,7 @@ ghost use lib.ListN.{length};
 ghost use Rattle.limits.specs.Limits.{mostFields, counterWords, listPlaces};
 ghost use Rattle.network.specs.Tables.{problemOf, Wired};
 ghost use Rattle.closing.specs.Prune.{PruneAsks, Pruned};
-ghost use Rattle.closing.specs.PruneTurn.{SetLowered};
+ghost use Rattle.closing.specs.PruneTurn.{SetLowered, EnoughLowered};
 use super::drop::drop;
 use super::drop::meet;
 use super::support::support_set;
@@ -59,7 +59,7 @@ fn lower_fields(
     n: usize,
 ) -> bool
     requires { ⌜ (x < listPlaces) × (j < mostFields) × (n ≤ mostFields) × (length (now counter) ≡ counterWords) ⌝ }
-    ensures { λ r. ⌜ SetLowered (now (d .entry)) (now (counter .entry)) (now (support .entry)) x j n r (now (none .exit))
+    ensures { λ r. ⌜ EnoughLowered (now (d .entry)) (now (counter .entry)) (now (support .entry)) x j n r (now (none .exit))
         (now (counter .exit)) ⌝ }
 {
     if n <= 8 {

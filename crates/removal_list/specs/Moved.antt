@@ -22,13 +22,14 @@ abbrev pub numberOf : ℕ → ℕ → ℕ
 numberOf j b = j * mostSettings + b
 
 -- The set D became R, and the list L with its tail at t became K with its tail at u: each setting that D lost entered a single time, and
--- nothing else entered.
+-- nothing else entered. Other places are as they were.
 pub record Moved (D L : List ℕ) (t : ℕ) (R K : List ℕ) (u : ℕ) : Type 0 where
   pub sized : length R ≡ length D
   pub long : length K ≡ length L
   pub inside : R ⊆ D
   pub more : t ≤ u
   pub front : (p : ℕ) → p < t → getD K p 0 ≡ getD L p 0
+  pub past : (p : ℕ) → u ≤ p → getD K p 0 ≡ getD L p 0
   pub enters : (j b : ℕ) → has D j b ≡ true → has R j b ≡ false → (p : ℕ) × (t ≤ p) × (p < u) × (getD K p 0 ≡ numberOf j b)
   pub nothing-else : (p : ℕ) → t ≤ p → p < u
       → (j : ℕ) × (b : ℕ) × (b < mostSettings) × (getD K p 0 ≡ numberOf j b) × (has D j b ≡ true) × (has R j b ≡ false)
@@ -47,6 +48,7 @@ module _ (D L : List ℕ) (t : ℕ) where
     inside = ⊆-refl D;
     more = omega arith;
     front = λ p l. refl;
+    past = λ p l. refl;
     enters = λ j b e g. absurd (never e g);
     nothing-else = λ p l h. absurd (omega arith);
     once = λ p q l h m k e. absurd (omega arith);
@@ -74,6 +76,7 @@ moved-then {D} {L} {R} {K} {S} {M} {t} {u} {w} x y = record {
   inside = ⊆-trans S R D (y .inside) (x .inside);
   more = omega (arith, x .more, y .more);
   front = λ p l. y .front p (omega (arith, x .more)) ∙ x .front p l;
+  past = λ p l. y .past p l ∙ x .past p (omega (arith, y .more));
   enters = λ j b e g. ⊎-elim
       (λ q. let r = y .enters j b q g in (r .0, omega (arith, x .more, r .1), r .2, r .3))
       (λ q. let r = x .enters j b e q in (r .0, r .1, omega (arith, y .more, r .2), y .front (r .0) (r .2) ∙ r .3))
@@ -106,6 +109,7 @@ moved-one D L t i a e h k = record {
   inside = lose-⊆ D i a;
   more = omega arith;
   front = λ p l. getD-set-other L t p (numberOf i a) 0 (λ q. omega arith);
+  past = λ p l. getD-set-other L t p (numberOf i a) 0 (λ q. omega arith);
   enters = λ j b d g. let s = lose-gone D i a j b d g in
       (t, omega arith, omega arith, getD-set-same L t (numberOf i a) 0 k ∙ omega (arith, s .0, s .1));
   nothing-else = λ p l m. let q : p ≡ t = omega arith in

@@ -1,9 +1,9 @@
 -- `uncounted` takes out what is counted, of one field after the other.
-use mathlib.Core.Path.{_≡_, refl}
+use mathlib.Core.Path.{_≡_}
 use Prim.Native.Nat.{_-_, _≤_}
 use native.Mathlib.Omega.{arith}
 use borrow.Author.Needs.{needs}
-use Rattle.counter.specs.Counts.{Uncounted, uncounted-start, uncounted-turn}
+use Rattle.counter.specs.Counts.{Uncounted, first-zeros, uncounted-start, uncounted-next}
 use Rattle.counter.proofs.uncounted.Statement.{statement}
 use Rattle.counter.proofs.uncounted.Tie as tie
 
@@ -14,7 +14,7 @@ abbrev μ-loop : tie.MeasureT-loop
 μ-loop counter j d wide none₀ i₀ none i = wide - i
 
 loop-holds : tie.Need-loop-holds Inv-loop μ-loop
-loop-holds c = (search needs, uncounted-start _ _ _ _ refl)
+loop-holds c = (search needs, uncounted-start _ _ _ _ first-zeros)
 
 mul-x : tie.Need-mul-x Inv-loop μ-loop
 mul-x c = search needs
@@ -47,7 +47,7 @@ loop-again : tie.Need-loop-again Inv-loop μ-loop
 loop-again c =
     let loop = c .before .before .before in
     let p = loop .before .pre in
-    (search needs, uncounted-turn _ _ _ _ _ _ (omega arith) (c .counted-word .ensures) (loop .loop .inv .1))
+    (search needs, uncounted-next _ _ _ _ _ _ (omega arith) (c .counted-word .ensures) (loop .loop .inv .1))
 
 returns : tie.Need-returns Inv-loop μ-loop
 returns c =

@@ -1,10 +1,11 @@
 -- `meet` gathers the settings that are in both sets.
-use mathlib.Core.Path.{_≡_, sym, _∙_}
-use Prim.Native.Nat.{_≤_, _-_}
+use mathlib.Core.Path.{_≡_, sym, ap}
+use mathlib.Core.Bool.{not}
+use Prim.Native.Nat.{ℕ, _≤_, _-_}
 use native.Mathlib.Omega.{arith}
 use borrow.Author.Needs.{needs}
-use borrow.Author.Tests.{eqb-true, not-false}
-use Rattle.closing.specs.Drop.{bothBelow, both-none, both-next, both-apart}
+use lib.Dec.{eqb}
+use Rattle.closing.specs.Drop.{bothBelow, both-none, both-next, meets}
 use Rattle.closing.proofs.drop.meet.Statement.{statement}
 use Rattle.closing.proofs.drop.meet.Tie as tie
 
@@ -39,10 +40,10 @@ loop-again : tie.Need-loop-again Inv-loop μ-loop
 loop-again c = (search needs, rw (c .before .before .before .loop .inv .1) (sym (both-next _ _ _)))
 
 returns : tie.Need-returns Inv-loop μ-loop
+unfolding meets
 returns c =
-    λ q.
     let e : c .before .loop .i ≡ c .before .before .args .wide = omega arith in
-    both-apart _ _ _ (sym (rw e at (c .before .loop .inv .1)) ∙ eqb-true _ 0 (not-false _ q))
+    ap (λ (both : ℕ). not (eqb both 0)) (rw e at (c .before .loop .inv .1))
 
 pub meet-spec : {M : Type 1} → statement M
 meet-spec =
