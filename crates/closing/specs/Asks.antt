@@ -3,17 +3,14 @@ use mathlib.Core.Path.{_≡_, refl, sym, ap, _∙_}
 use mathlib.Core.Logic.{⊎-elim}
 use mathlib.Core.Bool.{Bool, true, false, not, _&&_, xor, true≢false, and-true}
 use mathlib.Core.List.{List}
-use Prim.Native.Nat.{ℕ, _^_, _≤_, _<_}
-use native.Mathlib.Nat.{lt-of-le-of-lt, lt-of-lt-of-le}
+use Prim.Native.Nat.{ℕ, _^_, _<_}
 use native.Mathlib.Omega.{arith}
 use lib.Bits.{bitOr, bitXor}
 use lib.ListN.{length, getD}
-use lib.Pow.{pow-mono}
 use borrow.Author.Tests.{eq-eqb, ne-eqb}
 use Rattle.limits.specs.Limits.{mostFields, mostSettings, counterWords, supportWords, listPlaces}
 use Rattle.masks.specs.Tests.{never, not-so, bool-cases, eq-cases, iff-eq}
-use Rattle.masks.specs.Bits.{bit, bit-bound, Within, within-le}
-use Rattle.masks.specs.Masks.{maskOf-lt}
+use Rattle.masks.specs.Bits.{bit, bit-bound, Within}
 use Rattle.masks.specs.Words.{bit-xor, clear, clear-within, clear-same}
 use Rattle.masks.specs.Sets.{has, has-ext, _⊆_, ⊆-trans}
 use Rattle.masks.specs.Settings.{cut, cut-⊆, cut-by, lose, lose-⊆, lose-by, lose-set, length-lose, empty, empty-at, empty-by, empty-not}
@@ -23,10 +20,10 @@ use Rattle.consistency.specs.Problem.{Problem, allFields, in-allFields, allFiel
 use Rattle.consistency.specs.Closing.{closing, closing-is}
 use Rattle.consistency.specs.Passing.{NoneEmpty, noneEmpty, noneEmpty-at}
 use Rattle.network.specs.Tables.{problemOf, Wired}
-use Rattle.closing.specs.Shrunk.{or-within, one-within, small-⊆, Shrunk, shrunk-then, shrunk-set}
-use Rattle.closing.specs.Supports.{Counts, Supports, supports-less, closed-positive}
-use Rattle.closing.specs.Prune.{PruneAsks}
-use Rattle.closing.specs.Close.{Closes}
+use Rattle.pruning.specs.Shrunk.{or-within, one-within, small-⊆, Shrunk, shrunk-then, shrunk-set}
+use Rattle.pruning.specs.Supports.{Counts, Supports, supports-less, closed-positive}
+use Rattle.pruning.specs.Prune.{PruneAsks}
+use Rattle.pruning.specs.Close.{Closes}
 use Rattle.closing.specs.Frame.{Live, Tested, Removed}
 
 -- a set: a mask for each field, with a bit for each setting
@@ -192,9 +189,3 @@ module _ (n : ℕ) (joined forward turned : List ℕ) (S : List ℕ) (a : LiveAs
     marks = λ q. or-within (2 ^ f) changed (allFields P) (one-within (allFields P) f (in-allFields P f (a .live .on f v e) .1))
         (c .marks q);
   }
-
--- a mask of the problem's fields is small
-pub fields-small : (n : ℕ) (joined forward turned : List ℕ) (W : ℕ) → n ≤ mostFields
-    → Within W (allFields (problemOf n joined forward turned)) → W < 2 ^ mostFields
-unfolding allFields problemOf
-fields-small n joined forward turned W h w = lt-of-le-of-lt (within-le W _ w) (lt-of-lt-of-le (maskOf-lt n _) (pow-mono h))

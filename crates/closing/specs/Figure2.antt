@@ -10,9 +10,9 @@ use Rattle.masks.specs.Sets.{has}
 use Rattle.counter.specs.Counts.{countAt}
 use Rattle.removal_list.specs.Moved.{numberOf, Moved, moved-then}
 use Rattle.consistency.specs.Problem.{Problem}
-use Rattle.closing.specs.Supports.{supports-less, partners, counts-exact}
-use Rattle.closing.specs.Prune.{PruneAsks, Pruned}
-use Rattle.closing.specs.Initialize.{Initialized}
+use Rattle.pruning.specs.Supports.{supports-less, partners, counts-exact}
+use Rattle.pruning.specs.Prune.{PruneAsks, Pruned}
+use Rattle.initializing.specs.Initialize.{Initialized}
 use Rattle.closing.specs.Asks.{Counted, Lists}
 
 -- position b of field j is at one place of the list from t to u

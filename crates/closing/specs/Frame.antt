@@ -17,8 +17,8 @@ use Rattle.consistency.specs.Closing.{Closed, closing, closing-is}
 use Rattle.consistency.specs.Passing.{NoneEmpty, noneEmpty, noneEmpty-at, noneEmpty-by, noneEmpty-mono, left, passesOver}
 use Rattle.consistency.specs.Left.{passes-still}
 use Rattle.consistency.specs.Offers.{offers, offers-is, offers-lose, offers-in-closing, offers-between, wipedOut, wipedOut-by}
-use Rattle.closing.specs.Shrunk.{Shrunk}
-use Rattle.closing.specs.Close.{Closes}
+use Rattle.pruning.specs.Shrunk.{Shrunk}
+use Rattle.pruning.specs.Close.{Closes}
 
 module _ (P : Problem) where
   -- A set that an engine works on: settings of the problem's fields only, closed over every field, no field empty.

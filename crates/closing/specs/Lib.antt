@@ -1,19 +1,7 @@
--- Closing by AC-4: the support sets and counts, the removal list emptied, the test of a setting, and its removal.
-pub mod Counting
-pub mod Shrunk
-pub mod Supports
-pub mod Drop
-pub mod Close
-pub mod Pending
-pub mod Prune
-pub mod Initialize
-pub mod Record
-pub mod Count
+-- Closing by AC-4: at the start of an engine, in the test of a setting, and after its removal.
 pub mod Recover
 pub mod Frame
 pub mod Asks
-pub mod PruneTurn
-pub mod InitializeTurn
 pub mod Start
 pub mod TestAsks
 pub mod Figure2

@@ -15,7 +15,7 @@ use Rattle.masks.specs.Tests.{never, bool-cases, eq-cases}
 use Rattle.masks.specs.Bits.{bit, bit-of-zero}
 use Rattle.masks.specs.Words.{clear, clear-other}
 use Rattle.counter.specs.Counts.{OnlyTowards}
-use Rattle.closing.specs.Prune.{OnlySpent}
+use Rattle.pruning.specs.Prune.{OnlySpent}
 
 -- the first k words of the counts towards j are those of C, and no word changed but those towards j
 pub record Copied (C : List ℕ) (j : ℕ) (R : List ℕ) (k : ℕ) (Q : List ℕ) : Type 0 where

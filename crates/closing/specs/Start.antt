@@ -8,11 +8,11 @@ use Rattle.consistency.specs.Problem.{Problem, allFields}
 use Rattle.consistency.specs.Closing.{closing, closing-between}
 use Rattle.consistency.specs.Passing.{noneEmpty}
 use Rattle.network.specs.Tables.{problemOf}
-use Rattle.closing.specs.Shrunk.{or-within, shrunk-then}
-use Rattle.closing.specs.Supports.{supports-less}
-use Rattle.closing.specs.Close.{Closes}
-use Rattle.closing.specs.Prune.{Pruned}
-use Rattle.closing.specs.Initialize.{Initialized}
+use Rattle.pruning.specs.Shrunk.{or-within, shrunk-then}
+use Rattle.pruning.specs.Supports.{supports-less}
+use Rattle.pruning.specs.Close.{Closes}
+use Rattle.pruning.specs.Prune.{Pruned}
+use Rattle.initializing.specs.Initialize.{Initialized}
 use Rattle.closing.specs.Asks.{CloseAsks, Counted}
 
 module _ (n : ℕ) (joined forward turned : List ℕ) (S support counter copy list : List ℕ)

@@ -14,11 +14,12 @@ use Rattle.removal_list.specs.Count.{Small, count-most}
 use Rattle.removal_list.specs.Moved.{Moved, moved-then, without}
 use Rattle.consistency.specs.Problem.{Problem, allFields, in-allFields}
 use Rattle.network.specs.Tables.{problemOf}
-use Rattle.closing.specs.Supports.{supports-less}
-use Rattle.closing.specs.Prune.{OnlySpent, PruneAsks, Pruned}
+use Rattle.pruning.specs.Fields.{fields-small}
+use Rattle.pruning.specs.Supports.{supports-less}
+use Rattle.pruning.specs.Prune.{OnlySpent, PruneAsks, Pruned}
 use Rattle.closing.specs.Frame.{Tested, Removed, tested, cut-full}
 use Rattle.closing.specs.Asks.{LiveAsks, Counted, Lists, place-bound, off-within, without-off, prune-asks, cut-same, lose-same}
-use Rattle.closing.specs.Asks.{lose-full, removed-closed, fields-small}
+use Rattle.closing.specs.Asks.{lose-full, removed-closed}
 
 module _ (n : ℕ) (joined forward turned : List ℕ) (S : List ℕ) (a : LiveAsks n joined forward turned S) (support counter copy list : List ℕ)
     (ct : Counted (problemOf n joined forward turned) support counter copy list S) (f v : ℕ) (e : has S f v ≡ true) where

@@ -4,16 +4,16 @@ ghost use mathlib.Core.Path.{_≡_};
 ghost use mathlib.Core.Bool.{false};
 ghost use Rattle.consistency.specs.Problem.{allFields};
 ghost use Rattle.network.specs.Tables.{problemOf};
-ghost use Rattle.closing.specs.Close.{Closes};
+ghost use Rattle.pruning.specs.Close.{Closes};
 ghost use Rattle.closing.specs.Asks.{CloseAsks, Counted, Lists};
-use super::initialize_ac::initialize_ac;
-use super::prune_ac::prune_ac;
 use super::recover::recover;
+use initializing::initialize_ac::initialize_ac;
 use limits::COUNTER_WORDS;
 use limits::FIELDS;
 use limits::LIST_PLACES;
 use limits::SUPPORT_WORDS;
 use network::hoods::all_fields;
+use pruning::prune_ac::prune_ac;
 
 // What became of a set: whether a field has nothing left, and else which fields lost settings.
 pub struct Narrowed {

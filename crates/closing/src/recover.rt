@@ -3,7 +3,7 @@ ghost use mathlib.Core.Path.{_≡_};
 ghost use Prim.Native.Nat.{_^_, _<_};
 ghost use lib.ListN.{length};
 ghost use Rattle.limits.specs.Limits.{mostFields, countsWords, counterWords};
-ghost use Rattle.closing.specs.Prune.{OnlySpent};
+ghost use Rattle.pruning.specs.Prune.{OnlySpent};
 ghost use Rattle.closing.specs.Recover.{Copied};
 use limits::COUNTER_WORDS;
 use limits::COUNTS_WORDS;

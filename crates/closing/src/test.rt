@@ -8,7 +8,6 @@ ghost use Rattle.network.specs.Tables.{problemOf};
 ghost use Rattle.closing.specs.Frame.{Tested, Removed};
 ghost use Rattle.closing.specs.Asks.{LiveAsks, Counted, Lists};
 use super::close::Narrowed;
-use super::prune_ac::prune_ac;
 use super::recover::recover;
 use limits::COUNTER_WORDS;
 use limits::FIELDS;
@@ -17,6 +16,7 @@ use limits::SUPPORT_WORDS;
 use masks::Domains;
 use masks::one_bit;
 use network::hoods::all_fields;
+use pruning::prune_ac::prune_ac;
 use removal_list::move_out;
 
 // Tests position v of field f over the fields of `within`, on the copy of the counts and starting from the settings of f that are cut off.

@@ -16,8 +16,8 @@ use Rattle.consistency.specs.Closing.{closing-is}
 use Rattle.consistency.specs.Passing.{NoneEmpty, noneEmpty-at, passesOver, passesOver-at}
 use Rattle.consistency.specs.Offers.{PartiallyConsistent, offers, offers-is, offers-unique, offers-in-closing, offers-of-closing}
 use Rattle.consistency.specs.Offers.{wipedOut, wipedOut-by}
-use Rattle.closing.specs.Shrunk.{Shrunk, shrunk-none, shrunk-then, or-within}
-use Rattle.closing.specs.Close.{Closes}
+use Rattle.pruning.specs.Shrunk.{Shrunk, shrunk-none, shrunk-then, or-within}
+use Rattle.pruning.specs.Close.{Closes}
 use Rattle.closing.specs.Frame.{Live, wiped-by, wiped-same}
 use Rattle.visiting.specs.Visit.{Visited}
 

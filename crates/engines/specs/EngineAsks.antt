@@ -12,7 +12,7 @@ use Rattle.masks.specs.Settings.{someEmpty}
 use Rattle.consistency.specs.Problem.{Problem, In, OnFields, allFields}
 use Rattle.network.specs.declared.build.Network.{Network}
 use Rattle.network.specs.Tables.{problemOf, Wired}
-use Rattle.closing.specs.Shrunk.{small-⊆}
+use Rattle.pruning.specs.Shrunk.{small-⊆}
 use Rattle.closing.specs.Asks.{Masks, Blank, CloseAsks, LiveAsks, asks-shrunk}
 use Rattle.visiting.specs.Store.{HoodAsks}
 use Rattle.engines.specs.Engine.{IsOrder, Hoods, Begun, all-full, Kept}

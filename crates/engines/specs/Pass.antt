@@ -11,7 +11,7 @@ use lib.ListN.{length, getD}
 use Rattle.masks.specs.Tests.{never}
 use Rattle.masks.specs.Bits.{bit, bit-of-zero}
 use Rattle.consistency.specs.Problem.{Problem, In}
-use Rattle.closing.specs.Shrunk.{zero-or, shrunk-still}
+use Rattle.pruning.specs.Shrunk.{zero-or, shrunk-still}
 use Rattle.closing.specs.Frame.{Live}
 use Rattle.visiting.specs.Visit.{Visited}
 use Rattle.engines.specs.Engine.{IsOrder, Kept, kept-start, kept-then, kept-wiped, Wiped, visit-kept, visit-wiped, FieldPasses}

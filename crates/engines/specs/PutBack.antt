@@ -16,7 +16,7 @@ use Rattle.masks.specs.Masks.{maskOf, bit-maskOf, maskOf-in, maskOf-bound}
 use Rattle.masks.specs.Loops.{mask-cong}
 use Rattle.masks.specs.Words.{bit-and, bit-or, clear, clear-within, clear-other}
 use Rattle.consistency.specs.Problem.{Problem, allFields}
-use Rattle.closing.specs.Shrunk.{or-within}
+use Rattle.pruning.specs.Shrunk.{or-within}
 use Rattle.engines.specs.Engine.{Hoods}
 
 -- the mask of the first n fields

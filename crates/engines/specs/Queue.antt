@@ -14,7 +14,7 @@ use Rattle.masks.specs.Bits.{bit, bit-some, Within, within-le}
 use Rattle.masks.specs.Words.{clear, clear-within, clear-same, clear-other}
 use Rattle.masks.specs.Sets.{count}
 use Rattle.consistency.specs.Problem.{Problem, In, allFields, allFields-bound}
-use Rattle.closing.specs.Shrunk.{zero-or, shrunk-still, shrunk-fewer}
+use Rattle.pruning.specs.Shrunk.{zero-or, shrunk-still, shrunk-fewer}
 use Rattle.closing.specs.Frame.{Live, passes-same}
 use Rattle.visiting.specs.Visit.{Visited}
 use Rattle.engines.specs.Engine.{IsOrder, Hoods, Kept, kept-start, kept-then, kept-wiped, Wiped, visit-kept, visit-wiped, FieldPasses}

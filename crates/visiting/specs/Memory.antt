@@ -19,7 +19,7 @@ use Rattle.masks.specs.Words.{bit-and-not}
 use Rattle.masks.specs.Sets.{has, _⊆_}
 use Rattle.removal_list.specs.Moved.{numberOf}
 use Rattle.network.specs.Stored.{Stored, wordsOf, wordsOf-at}
-use Rattle.closing.specs.Shrunk.{zero-or}
+use Rattle.pruning.specs.Shrunk.{zero-or}
 
 -- where the masks of position u of field g are: the memory has a mask for each field, for each setting of each field
 abbrev pub placeOf : ℕ → ℕ → ℕ

@@ -13,7 +13,7 @@ use Rattle.masks.specs.Sets.{has}
 use Rattle.consistency.specs.Problem.{Problem, allFields}
 use Rattle.consistency.specs.Passing.{passesOver}
 use Rattle.consistency.specs.Offers.{offers, wipedOut}
-use Rattle.closing.specs.Shrunk.{or-within, Shrunk, shrunk-none, shrunk-then}
+use Rattle.pruning.specs.Shrunk.{or-within, Shrunk, shrunk-none, shrunk-then}
 use Rattle.closing.specs.Frame.{Live, Removed, WhereTested, wiped-same, passes-same, removed-none, removed-steady, removed-live}
 use Rattle.closing.specs.Frame.{removed-gone}
 

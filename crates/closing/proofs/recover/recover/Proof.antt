@@ -5,7 +5,7 @@ use lib.ListN.{length}
 use Rattle.limits.specs.Limits.{mostFields, counterWords}
 use Rattle.masks.specs.Bits.{bit-bound, Within}
 use Rattle.masks.specs.Words.{clear-lt, clear-within}
-use Rattle.closing.specs.Prune.{OnlySpent}
+use Rattle.pruning.specs.Prune.{OnlySpent}
 use Rattle.closing.specs.Recover.{recovered-turn, recovered-end}
 use Rattle.closing.proofs.recover.recover.Statement.{statement}
 use Rattle.closing.proofs.recover.recover.Tie as tie

@@ -6,7 +6,8 @@ use Rattle.limits.specs.Limits.{mostFields}
 use Rattle.masks.specs.Bits.{bit, bit-of-zero}
 use Rattle.masks.specs.Sets.{count}
 use Rattle.network.specs.Network.{problemIn}
-use Rattle.closing.specs.Asks.{Counted, fields-small}
+use Rattle.pruning.specs.Fields.{fields-small}
+use Rattle.closing.specs.Asks.{Counted}
 use Rattle.visiting.specs.Store.{Store, store-start}
 use Rattle.engines.specs.Engine.{kept-wiped, begun-engine, engine-none, engine-done}
 use Rattle.engines.specs.EngineAsks.{begun-asks, kept-asks}

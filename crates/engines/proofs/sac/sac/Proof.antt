@@ -4,7 +4,7 @@ use Prim.Native.Nat.{ℕ}
 use lib.ListN.{length}
 use Rattle.masks.specs.Sets.{count}
 use Rattle.network.specs.Network.{problemIn}
-use Rattle.closing.specs.Shrunk.{shrunk-fewer}
+use Rattle.pruning.specs.Shrunk.{shrunk-fewer}
 use Rattle.closing.specs.Asks.{Counted}
 use Rattle.visiting.specs.Store.{Store, store-start}
 use Rattle.engines.specs.Engine.{Kept, kept-start, kept-then, kept-wiped, begun-engine, engine-none, engine-done}
