@@ -134,7 +134,8 @@ module _ (n : ℕ) (joined forward turned : List ℕ) (wired : Wired n joined fo
     pub pruned-same : some ≡ false → Pruning P W S D1 L1 t1 C1 (h + 1) changed (bitOr spent (2 ^ j)) D L t R
     pruned-same e =
         rw (sym (or-zero-r changed))
-        (pruned-next D L t 0 (dropped-none near none D L t (λ f v i. meets-not (enough .wide) D none (sym (r .met) ∙ e) f v (near-field f i))))
+        (pruned-next D L t 0
+        (dropped-none near none D L t (λ f v i. meets-not (enough .wide) D none (sym (r .met) ∙ e) f v (near-field f i))))
       where
         near-field : (f : ℕ) → bit (bitAnd (getD joined (getD L h 0 / mostSettings) 0) W) f ≡ true → f < enough .wide
         near-field f i =
