@@ -18,7 +18,7 @@ abbrev μ-loop : tie.MeasureT-loop
 μ-loop support₀ j i masks di forward turned rows b₀ support b = mostSettings - b
 
 row-requires : tie.Need-row-requires Inv-loop μ-loop
-row-requires c κs = let p = c .before .before .pre in (p .0, p .1, p .2, p .4, p .5)
+row-requires c κs = let p = c .before .before .pre in (p .0, p .1, p .2, search needs, search needs)
 
 loop-holds : tie.Need-loop-holds Inv-loop μ-loop
 loop-holds c = (search needs, c .before .before .before .pre .3, arc-start _ _ _ _ _ _)
@@ -29,7 +29,8 @@ mul-support c = search needs
 shared-slice-read-support : tie.Need-shared-slice-read-support Inv-loop μ-loop
 shared-slice-read-support c =
     let p = c .before .before .before .before .before .before .pre in
-    let e = ap length (c .before .before .before .row .ensures) ∙ rowsOf-length _ _ _ _ (p .0) (p .1) (p .2) (p .4) (p .5) in
+    let row = c .before .before .before .row .ensures in
+    let e = ap length row ∙ rowsOf-length _ _ _ _ (p .0) (p .1) (p .2) (search needs) (search needs) in
     let t = c .before .loop-test .taken in
     omega arith
 
