@@ -5,8 +5,8 @@
  * asks: each pointer is valid for its length (and not NULL, even where the length is 0), and what a call writes (session, offers, rows,
  * memory, output) overlaps nothing else that it is given.
  *
- * A call that gives offers needs about 90,000 bytes of stack; 114,688 bytes are enough. The arrays of closing are 80,640 of the 90,000:
- * counts 2 x 11,520, support sets 55,296, removal list 2,304.
+ * A call that gives offers needs about 163,000 bytes of stack; 196,608 bytes are enough. The arrays of closing are 80,640 of the 163,000:
+ * counts 2 x 11,520, support sets 55,296, removal list 2,304. The table of the triples is 74,308.
  */
 #ifndef BELAYKEEL_H
 #define BELAYKEEL_H
@@ -19,11 +19,11 @@ extern "C" {
 #endif
 
 #define BELAYKEEL_FIELDS 24 /* the most fields of a sheet, and the most settings of a field */
-#define BELAYKEEL_LARGEST_SETTING 1000000 /* the largest setting, and the largest number c of a rule, in micrometres */
+#define BELAYKEEL_LARGEST_SETTING 1000000 /* the largest setting, and the largest number c of a rule or triple, in micrometres */
 #define BELAYKEEL_ENCODER_TOLERANCE 2 /* how far the distance of a pair may be from c under kind 5, in micrometres */
 #define BELAYKEEL_EVENTS 64 /* the most events of a session */
-#define BELAYKEEL_SHEET_BYTES 29080 /* the most bytes of a sheet */
-#define BELAYKEEL_SHEET_NUMBERS 8055 /* the most numbers of a sheet */
+#define BELAYKEEL_SHEET_BYTES 29273 /* the most bytes of a sheet */
+#define BELAYKEEL_SHEET_NUMBERS 8184 /* the most numbers of a sheet */
 #define BELAYKEEL_OFFERS_WORDS 24 /* the least words of the offers list */
 #define BELAYKEEL_ROWS_WORDS 13248 /* the least words of the first work space */
 #define BELAYKEEL_MEMORY_WORDS 13824 /* the least words of the second work space */
@@ -35,8 +35,8 @@ enum {
     BELAYKEEL_ENDS_INSIDE = 1, /* bytes or numbers end inside the sheet */
     BELAYKEEL_ILL_FORMED = 2, /* a fourth group continues, or a last group is 0 after another group */
     BELAYKEEL_OUT_OF_RANGE = 3, /* a number of the sheet is outside its range */
-    BELAYKEEL_OUT_OF_ORDER = 4, /* settings or rules do not rise, or a rule's first field is not below its second */
-    BELAYKEEL_SURPLUS = 5, /* bytes or numbers follow the last rule */
+    BELAYKEEL_OUT_OF_ORDER = 4, /* settings, rules or triples do not rise, or the fields of a rule or triple do not */
+    BELAYKEEL_SURPLUS = 5, /* bytes or numbers follow the sheet's end */
     BELAYKEEL_TOO_SHORT = 6, /* the offers list, a work space or the output is too short */
     BELAYKEEL_UNKNOWN = 7, /* the engine is not 1 to 3, or the field or position is not on the sheet */
     BELAYKEEL_TOO_NARROW = 8, /* never given: engine 2 runs at every reach */

@@ -2,7 +2,7 @@
 use mathlib.Core.Path.{_≡_, refl, sym, ap, _∙_}
 use mathlib.Core.Logic.{inl, inr, ⊎-elim}
 use mathlib.Core.Bool.{true}
-use mathlib.Core.List.{List, [], _∷_, _++_}
+use mathlib.Core.List.{List, [], _∷_, _++_, append-assoc}
 use Prim.Native.Nat.{ℕ, zero, suc, _+_, _-_, _^_, _<_, _≤_}
 use native.Mathlib.Omega.{arith}
 use lib.Dec.{ltb, leb, eqb}
@@ -13,8 +13,8 @@ use Rattle.grammar.specs.Grammar.{advance, afterRule, afterMask, afterKind, key
 use Rattle.sheet.specs.Sources.{refusalFrom, ofNumbers}
 use Rattle.accepted.specs.Sheets.{Rule, rulesNumbers, Below, below-none, below-one, RuleRight, Ruled, ruled-none, ruled-one}
 use Rattle.accepted.specs.Accept.{ranged-in, ordered-in, pick-in, both}
-use Rattle.grammar.specs.declared.grammar.Expected.the-variants.{First, Mask, Amount}
-use Rattle.grammar.specs.declared.grammar.State.the-variants.{Wants, Complete}
+use Rattle.grammar.specs.declared.grammar.Expected.the-variants.{First, Mask, Amount, Triples}
+use Rattle.grammar.specs.declared.grammar.State.the-variants.{Wants}
 
 abbrev pub dOf : List ℕ → ℕ → ℕ
 dOf ds k = getD ds k 0
@@ -123,22 +123,27 @@ rule-in (i ∷ j ∷ kind ∷ ys) left floor n ds h e =
 
 pub record RulesIn (left floor n : ℕ) (ds ys : List ℕ) : Type 0 where
   pub rules : List Rule
-  pub split : ys ≡ rulesNumbers rules
+  pub rest : List ℕ
+  pub split : ys ≡ rulesNumbers rules ++ rest
   pub size : length rules ≡ left
   pub ruled : Ruled n (dOf ds) floor rules
+  pub on : refusalFrom (Wants n Triples) ds (ofNumbers rest) ≡ 0
 
-end-in : (ys : List ℕ) (n : ℕ) (ds : List ℕ) → refusalFrom Complete ds (ofNumbers ys) ≡ 0 → ys ≡ []
-unfolding refusalFrom advance
-end-in [] n ds e = refl
-end-in (x ∷ ys) n ds e = absurd (omega arith)
+-- a rule in front of those after it
+rule-front : (r : Rule) (rs : List Rule) (ys zs rest : List ℕ) → ys ≡ r .i ∷ r .j ∷ r .kind ∷ (r .values ++ zs)
+    → zs ≡ rulesNumbers rs ++ rest → ys ≡ rulesNumbers (r ∷ rs) ++ rest
+unfolding rulesNumbers
+rule-front r rs ys zs rest p q =
+    p ∙ ap (λ (y : List ℕ). r .i ∷ r .j ∷ r .kind ∷ y)
+    (ap (λ (y : List ℕ). r .values ++ y) q ∙ sym (append-assoc (r .values) (rulesNumbers rs) rest))
 
 pub rules-in : (left floor n : ℕ) (ds ys : List ℕ) → ((k : ℕ) → k < n → 1 ≤ getD ds k 0)
     → refusalFrom (afterRule n left floor) ds (ofNumbers ys) ≡ 0 → RulesIn left floor n ds ys
 unfolding rulesNumbers
 rules-in zero floor n ds ys h e =
-    ⊎-elim (λ r. record { rules = []; split = end-in ys n ds (r .1); size = refl; ruled = ruled-none })
+    ⊎-elim (λ r. record { rules = []; rest = ys; split = refl; size = refl; ruled = ruled-none; on = r .1 })
     (λ r. absurd (eqb-false 0 0 (r .0) refl))
-    (pick-in (eqb 0 0) Complete (Wants n (First (0 - 1) floor)) ds (ofNumbers ys) e)
+    (pick-in (eqb 0 0) (Wants n Triples) (Wants n (First (0 - 1) floor)) ds (ofNumbers ys) e)
 rules-in (suc left) floor n ds ys h e =
     ⊎-elim (λ r. absurd (omega (arith, eqb-true (suc left) 0 (r .0))))
     (λ r.
@@ -147,8 +152,10 @@ rules-in (suc left) floor n ds ys h e =
     let u = rules-in left (key (t .rule .i) (t .rule .j) + 1) n ds (t .rest) h (t .on) in
     record {
       rules = t .rule ∷ u .rules;
-      split = t .split ∙ ap (λ (y : List ℕ). t .rule .i ∷ t .rule .j ∷ t .rule .kind ∷ (t .rule .values ++ y)) (u .split);
+      rest = u .rest;
+      split = rule-front (t .rule) (u .rules) ys (t .rest) (u .rest) (t .split) (u .split);
       size = ap suc (u .size);
       ruled = ruled-one (t .rise) (t .right) (u .ruled);
+      on = u .on;
     })
-    (pick-in (eqb (suc left) 0) Complete (Wants n (First (suc left - 1) floor)) ds (ofNumbers ys) e)
+    (pick-in (eqb (suc left) 0) (Wants n Triples) (Wants n (First (suc left - 1) floor)) ds (ofNumbers ys) e)

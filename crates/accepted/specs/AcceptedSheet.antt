@@ -12,12 +12,13 @@ use Rattle.masks.specs.Pick.{pick-true}
 use Rattle.limits.specs.Limits.{mostFields, wholeReach, mostRules}
 use Rattle.grammar.specs.Grammar.{advance, noCounts, afterRule}
 use Rattle.sheet.specs.Sources.{refusalFrom, ofNumbers, Accepted}
-use Rattle.accepted.specs.Sheets.{Rule, fieldsNumbers, sheetNumbers, ValuesRight, Ruled, ruled-none, ruled-one, IsSheet}
+use Rattle.accepted.specs.Sheets.{Rule, fieldsNumbers, rulesNumbers, sheetNumbers, ValuesRight, Ruled, ruled-none, ruled-one, IsSheet}
 use Rattle.accepted.specs.Accept.{ranged-in, upTo-le}
 use Rattle.grammar.specs.declared.grammar.Expected.the-variants.{Count, Reach}
 use Rattle.grammar.specs.declared.grammar.State.the-variants.{Wants}
 use Rattle.accepted.specs.AcceptedFields.{FieldsIn, fields-in}
 use Rattle.accepted.specs.AcceptedRules.{dOf, rules-in}
+use Rattle.accepted.specs.AcceptedTriples.{part-in}
 
 values-same : (d d′ : ℕ → ℕ) (r : Rule) → d (r .i) ≡ d′ (r .i) → d (r .j) ≡ d′ (r .j) → ValuesRight d r → ValuesRight d′ r
 values-same d d′ r p q (inl v) = inl (v .0, v .1 ∙ p, rw q at v .2)
@@ -42,10 +43,12 @@ sheet-of : (n reach e : ℕ) (ys zs : List ℕ) → 1 ≤ n → n ≤ mostFields
 unfolding sheetNumbers
 sheet-of n reach e ys zs p q t z a b c on =
     let u = rules-in e 0 n (t .counts) zs (λ k h. rw (same k h) (t .right k (rw (t .size) h) .some)) on in
+    let v = part-in n (t .counts) (u .rest) (u .on) in
     record {
-      sheet = record { fields = t .fields; reach = reach; rules = u .rules };
+      sheet = record { fields = t .fields; reach = reach; rules = u .rules; triples = v .triples };
       split = ap₂ _∷_ (sym (t .size)) (t .split ∙ ap (λ (y : List ℕ). fieldsNumbers (t .fields) ++ y)
-          (z ∙ ap₂ (λ (i : ℕ) (y : List ℕ). reach ∷ i ∷ y) (sym (u .size)) (u .split)));
+          (z ∙ ap₂ (λ (i : ℕ) (y : List ℕ). reach ∷ i ∷ y) (sym (u .size))
+          (u .split ∙ ap (λ (y : List ℕ). rulesNumbers (u .rules) ++ y) (v .split))));
       right = record {
         some = rw (t .size) p;
         few = rw (t .size) q;
@@ -54,6 +57,8 @@ sheet-of n reach e ys zs p q t z a b c on =
         reach-few = b;
         rules-few = rw (u .size) c;
         ruled = rw (t .size) (ruled-same n 0 (dOf (t .counts)) (λ f. length (getD (t .fields) f [])) (u .rules) same (u .ruled));
+        triples-few = v .few;
+        tripled = rw (t .size) (v .tripled);
       };
     }
   where

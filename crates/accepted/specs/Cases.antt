@@ -8,7 +8,7 @@ use Rattle.groups.specs.Groups.{groups, numberAt, encode, encodeIn}
 use Rattle.grammar.specs.Grammar.{advance}
 use Rattle.sheet.specs.Sources.{refusalFrom, refusal, numbers, items, ofBytes, ofNumbers, bytesOf, retiredFrom, writerRefusal}
 use Rattle.accepted.specs.Lists.{tabulate}
-use Rattle.accepted.specs.Kinds.{allows}
+use Rattle.accepted.specs.Kinds.{allows, evenDraft}
 
 -- sheet D, in bytes and in numbers
 abbrev pub D : List ℕ
@@ -28,9 +28,9 @@ pub refused-groups : (refusal (ofBytes (0x80 ∷ 0x00 ∷ [])) ≡ 2) × (refusa
 unfolding refusalFrom items numberAt groups pick advance
 refused-groups = (refl, refl, refl, refl)
 
--- 25 fields; a setting twice; i = j; a number after the last rule
+-- 25 fields; a setting twice; i = j; a 0 after the rules, which is no count of triples
 pub refused-numbers : (refusal (ofNumbers (25 ∷ [])) ≡ 3) × (refusal (ofNumbers (1 ∷ 2 ∷ 5 ∷ 5 ∷ [])) ≡ 4)
-    × (refusal (ofNumbers (2 ∷ 1 ∷ 5 ∷ 1 ∷ 5 ∷ 1 ∷ 1 ∷ 1 ∷ 1 ∷ [])) ≡ 4) × (refusal (ofNumbers (1 ∷ 1 ∷ 5 ∷ 24 ∷ 0 ∷ 0 ∷ [])) ≡ 5)
+    × (refusal (ofNumbers (2 ∷ 1 ∷ 5 ∷ 1 ∷ 5 ∷ 1 ∷ 1 ∷ 1 ∷ 1 ∷ [])) ≡ 4) × (refusal (ofNumbers (1 ∷ 1 ∷ 5 ∷ 24 ∷ 0 ∷ 0 ∷ [])) ≡ 3)
 unfolding refusalFrom pick advance
 refused-numbers = (refl, refl, refl, refl)
 
@@ -109,7 +109,7 @@ equal-within-encoder = (refl, refl, refl, refl, refl)
 
 -- ---- the retired kind (02, request 9)
 
--- kind 2 is read; it is not written, also where the list ends after it, goes on with a number out of range, or has one too many
+-- kind 2 is read; it is not written, also where the list ends after it, goes on with a c out of range, or with a 0
 pub retired-kind : (unread (withAmount 2 (5 ∷ [])) ≡ 0) × (numbers (ofBytes (withAmount 2 (5 ∷ []))) ≡ withAmount 2 (5 ∷ []))
     × (writerRefusal (withAmount 2 (5 ∷ [])) ≡ 20) × (writerRefusal (withAmount 2 []) ≡ 20)
     × (writerRefusal (withAmount 2 (1000001 ∷ [])) ≡ 20) × (writerRefusal (withAmount 2 (5 ∷ 0 ∷ [])) ≡ 20)
@@ -131,3 +131,63 @@ pub other-twos : (writerRefusal (2 ∷ 2 ∷ 2 ∷ 3 ∷ 2 ∷ 2 ∷ 3 ∷ 2 ∷
     × (writerRefusal (4 ∷ 1 ∷ 2 ∷ 1 ∷ 2 ∷ 1 ∷ 2 ∷ 1 ∷ 2 ∷ 2 ∷ 2 ∷ 1 ∷ 2 ∷ 1 ∷ 2 ∷ 2 ∷ 3 ∷ 3 ∷ 2 ∷ []) ≡ 0)
 unfolding refusalFrom retiredFrom pick advance
 other-twos = (refl, refl)
+
+-- ---- triples (02, request 12)
+
+-- Four fields of one setting and no rules, and what follows them: its refusal as a list and as bytes, for numbers of one group.
+abbrev four : List ℕ → List ℕ
+four ys = 4 ∷ 1 ∷ 0 ∷ 1 ∷ 0 ∷ 1 ∷ 0 ∷ 1 ∷ 0 ∷ 24 ∷ 0 ∷ ys
+
+abbrev both : List ℕ → ℕ × ℕ
+both ys = (writerRefusal (four ys), unread (four ys))
+
+-- none; all four that four fields have; one with c 1,000,000 and one with c 1,000,001, as a list and as bytes
+pub triples-taken : (both [] ≡ (0, 0))
+    × (both (4 ∷ 0 ∷ 1 ∷ 2 ∷ 5 ∷ 0 ∷ 1 ∷ 3 ∷ 5 ∷ 0 ∷ 2 ∷ 3 ∷ 5 ∷ 1 ∷ 2 ∷ 3 ∷ 5 ∷ []) ≡ (0, 0))
+    × (writerRefusal (four (1 ∷ 0 ∷ 1 ∷ 2 ∷ 1000000 ∷ [])) ≡ 0) × (unread (four (1 ∷ 0 ∷ 1 ∷ 2 ∷ 0xC0 ∷ 0x84 ∷ 0x3D ∷ [])) ≡ 0)
+    × (writerRefusal (four (1 ∷ 0 ∷ 1 ∷ 2 ∷ 1000001 ∷ [])) ≡ 3) × (unread (four (1 ∷ 0 ∷ 1 ∷ 2 ∷ 0xC1 ∷ 0x84 ∷ 0x3D ∷ [])) ≡ 3)
+unfolding refusalFrom retiredFrom items numberAt groups pick advance
+triples-taken = (refl, refl, refl, refl, refl, refl)
+
+-- ends inside: after the count, i, j, k, and where one of two triples stands
+pub triples-cut : (both (1 ∷ []) ≡ (1, 1)) × (both (1 ∷ 0 ∷ []) ≡ (1, 1)) × (both (1 ∷ 0 ∷ 1 ∷ []) ≡ (1, 1))
+    × (both (1 ∷ 0 ∷ 1 ∷ 2 ∷ []) ≡ (1, 1)) × (both (2 ∷ 0 ∷ 1 ∷ 2 ∷ 5 ∷ []) ≡ (1, 1)) × (both (32 ∷ []) ≡ (1, 1))
+unfolding refusalFrom retiredFrom items numberAt groups pick advance
+triples-cut = (refl, refl, refl, refl, refl, refl)
+
+-- out of range: a count of 0 and of 33; i, j and k of 4, also where the order does not hold
+pub triples-out-of-range : (both (0 ∷ []) ≡ (3, 3)) × (both (33 ∷ []) ≡ (3, 3)) × (both (1 ∷ 4 ∷ []) ≡ (3, 3))
+    × (both (1 ∷ 3 ∷ 4 ∷ []) ≡ (3, 3)) × (both (1 ∷ 0 ∷ 1 ∷ 4 ∷ []) ≡ (3, 3)) × (both (2 ∷ 1 ∷ 2 ∷ 3 ∷ 5 ∷ 0 ∷ 1 ∷ 4 ∷ []) ≡ (3, 3))
+unfolding refusalFrom retiredFrom items numberAt groups pick advance
+triples-out-of-range = (refl, refl, refl, refl, refl, refl)
+
+-- out of order: i not below j, at j; j not below k, at k; triples that do not rise, at k: by k, j and i, and one twice
+pub triples-out-of-order : (both (1 ∷ 1 ∷ 1 ∷ []) ≡ (4, 4)) × (both (1 ∷ 1 ∷ 0 ∷ []) ≡ (4, 4)) × (both (1 ∷ 0 ∷ 2 ∷ 2 ∷ []) ≡ (4, 4))
+    × (both (1 ∷ 0 ∷ 2 ∷ 1 ∷ []) ≡ (4, 4)) × (both (2 ∷ 0 ∷ 1 ∷ 3 ∷ 5 ∷ 0 ∷ 1 ∷ 2 ∷ []) ≡ (4, 4))
+    × (both (2 ∷ 0 ∷ 2 ∷ 3 ∷ 5 ∷ 0 ∷ 1 ∷ 3 ∷ []) ≡ (4, 4)) × (both (2 ∷ 1 ∷ 2 ∷ 3 ∷ 5 ∷ 0 ∷ 2 ∷ 3 ∷ []) ≡ (4, 4))
+    × (both (2 ∷ 0 ∷ 1 ∷ 2 ∷ 5 ∷ 0 ∷ 1 ∷ 2 ∷ []) ≡ (4, 4))
+unfolding refusalFrom retiredFrom items numberAt groups pick advance
+triples-out-of-order = (refl, refl, refl, refl, refl, refl, refl, refl)
+
+-- a triple that cannot rise any more is not refused before k: the list ends after i, and after j
+pub triples-judged-at-third : (both (2 ∷ 1 ∷ 2 ∷ 3 ∷ 5 ∷ 0 ∷ []) ≡ (1, 1)) × (both (2 ∷ 1 ∷ 2 ∷ 3 ∷ 5 ∷ 0 ∷ 1 ∷ []) ≡ (1, 1))
+    × (both (2 ∷ 0 ∷ 2 ∷ 3 ∷ 5 ∷ 0 ∷ 1 ∷ []) ≡ (1, 1))
+unfolding refusalFrom retiredFrom items numberAt groups pick advance
+triples-judged-at-third = (refl, refl, refl)
+
+-- after the last triple: a number, bytes that end inside a number, and groups that are no number. After the rules, where a count may stand,
+-- the groups are judged. Sheet D twice: 2 triples, and a field of 3.
+pub triples-surplus : (both (1 ∷ 0 ∷ 1 ∷ 2 ∷ 5 ∷ 0 ∷ []) ≡ (5, 5)) × (unread (four (1 ∷ 0 ∷ 1 ∷ 2 ∷ 5 ∷ 0x80 ∷ [])) ≡ 5)
+    × (unread (four (1 ∷ 0 ∷ 1 ∷ 2 ∷ 5 ∷ 0x80 ∷ 0x00 ∷ [])) ≡ 5)
+    × (unread (four (0x80 ∷ [])) ≡ 1) × (unread (four (0x80 ∷ 0x00 ∷ [])) ≡ 2) × (unread (D ++ D) ≡ 3)
+unfolding refusalFrom retiredFrom items numberAt groups pick advance
+triples-surplus = (refl, refl, refl, refl, refl, refl)
+
+-- p + r and 2 * q differ by at most c: with c 0 and 1 on either side, and near 1,000,000
+pub even-drafts : (evenDraft 0 100 200 300 ≡ true) × (evenDraft 0 100 200 301 ≡ false) × (evenDraft 1 100 200 301 ≡ true)
+    × (evenDraft 0 100 200 299 ≡ false) × (evenDraft 1 100 200 299 ≡ true) × (evenDraft 1 99 200 299 ≡ false)
+    × (evenDraft 0 1 2 1 ≡ false) × (evenDraft 0 1000000 1000000 1000000 ≡ true)
+    × (evenDraft 1000000 1000000 500000 1000000 ≡ true) × (evenDraft 999999 1000000 500000 1000000 ≡ false)
+    × (evenDraft 1000000 0 500000 0 ≡ true) × (evenDraft 999999 0 500000 0 ≡ false) × (evenDraft 1000000 0 1000000 0 ≡ false)
+unfolding pick
+even-drafts = (refl, refl, refl, refl, refl, refl, refl, refl, refl, refl, refl, refl, refl)

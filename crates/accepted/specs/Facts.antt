@@ -5,19 +5,22 @@ use mathlib.Core.List.{List, []}
 use Prim.Native.Nat.{ℕ, zero, suc, _+_, _^_, _<_, _≤_}
 use native.Mathlib.Omega.{arith}
 use lib.ListN.{length, getD}
-use Rattle.limits.specs.Limits.{mostFields, mostSettings, largestSetting, wholeReach, mostRules, lastKind}
-use Rattle.grammar.specs.Grammar.{key}
+use Rattle.limits.specs.Limits.{mostFields, mostSettings, largestSetting, wholeReach, mostRules, mostTriples, lastKind}
+use Rattle.grammar.specs.Grammar.{key, tripleKey}
 use Rattle.sheet.specs.Sources.{Accepted}
 use Rattle.accepted.specs.Sheets.{Rule, Sheet, Rises, rises-none, rises-one, Below, below-none, below-one, RuleRight, Ruled}
-use Rattle.accepted.specs.Sheets.{ruled-none, ruled-one, counted, IsSheet}
+use Rattle.accepted.specs.Sheets.{ruled-none, ruled-one, counted, Triple, keyOfTriple, Tripled, tripled-none}
+use Rattle.accepted.specs.Sheets.{tripled-one, IsSheet}
 use Rattle.accepted.specs.AcceptedSheet.{sheet-in}
 use Rattle.accepted.specs.Parts.{RuleAt, rule-next, fieldStart, fieldsOf, countOf, settingOf, reachOf, rulesOf, ruleStart, firstOf}
-use Rattle.accepted.specs.Parts.{secondOf, kindOf, valueOf, valuesAt}
+use Rattle.accepted.specs.Parts.{secondOf, kindOf, valueOf, valuesAt, TripleAt, triplesAt, triplesOf, tripleStart, tripleFirst}
+use Rattle.accepted.specs.Parts.{tripleSecond, tripleThird, tripleNumber}
 use Rattle.accepted.specs.Places.{noRule, ruleOf, fields-count, count-is, setting-is, field-ends, reach-is, rules-is, rule-right}
-use Rattle.accepted.specs.Places.{first-is, second-is, kind-is, value-is, tail-ends, rule-ends, rule-values}
+use Rattle.accepted.specs.Places.{first-is, second-is, kind-is, value-is, tail-ends, rule-ends, rule-values, noTriple, triple-right}
+use Rattle.accepted.specs.Places.{triples-is, triple-first-is, triple-second-is, triple-third-is, triple-number-is, triple-ends}
 
--- Fields, counts and settings; reach; rules, their fields, kinds and numbers. Those named `..-end`, `rule-after` and the second part of
--- `mask-lt` say that a place lies within the list.
+-- Fields, counts and settings; reach; rules, their fields, kinds and numbers; triples, their fields and numbers. Those named `..-end`,
+-- `rule-after` and the second part of `mask-lt` say that a place lies within the list.
 pub record Facts (xs : List ℕ) : Type 0 where
   pub fields-some : 1 ≤ fieldsOf xs
   pub fields-few : fieldsOf xs ≤ mostFields
@@ -39,6 +42,15 @@ pub record Facts (xs : List ℕ) : Type 0 where
       → (valueOf xs r a < 2 ^ countOf xs (secondOf xs r)) × (ruleStart xs r + 3 + a < length xs)
   pub amount-le : (r : ℕ) → r < rulesOf xs → (kindOf xs r ≡ 0 → ⊥) → valueOf xs r 0 ≤ largestSetting
   pub rule-rise : (r : ℕ) → suc r < rulesOf xs → key (firstOf xs r) (secondOf xs r) < key (firstOf xs (suc r)) (secondOf xs (suc r))
+  pub triples-few : triplesOf xs ≤ mostTriples
+  pub triple-end : (t : ℕ) → t < triplesOf xs → tripleStart xs t + 3 < length xs
+  pub triple-apart : (t : ℕ) → t < triplesOf xs → tripleFirst xs t < tripleSecond xs t
+  pub triple-above : (t : ℕ) → t < triplesOf xs → tripleSecond xs t < tripleThird xs t
+  pub triple-within : (t : ℕ) → t < triplesOf xs → tripleThird xs t < fieldsOf xs
+  pub triple-amount-le : (t : ℕ) → t < triplesOf xs → tripleNumber xs t ≤ largestSetting
+  pub triple-rise : (t : ℕ) → suc t < triplesOf xs
+      → tripleKey (tripleFirst xs t) (tripleSecond xs t) (tripleThird xs t)
+      < tripleKey (tripleFirst xs (suc t)) (tripleSecond xs (suc t)) (tripleThird xs (suc t))
 
 rises-at : (floor : ℕ) (xs : List ℕ) → Rises floor xs → (v : ℕ) → v < length xs → (floor ≤ getD xs v 0) × (getD xs v 0 ≤ largestSetting)
 rises-at floor xs rises-none v h = absurd (omega arith)
@@ -68,6 +80,16 @@ ruled-next n floor d rs ruled-none r h = absurd (omega arith)
 ruled-next n floor d rs (ruled-one {rs = ts} l g t) zero h = let q = ruled-floor n _ d ts t (omega arith) in omega arith
 ruled-next n floor d rs (ruled-one {rs = ts} l g t) (suc r) h = ruled-next n _ d ts t r (omega arith)
 
+tripled-floor : (n floor : ℕ) (ts : List Triple) → Tripled n floor ts → 0 < length ts → floor ≤ keyOfTriple (getD ts 0 noTriple)
+tripled-floor n floor ts tripled-none h = absurd (omega arith)
+tripled-floor n floor ts (tripled-one l g r) h = l
+
+tripled-next : (n floor : ℕ) (ts : List Triple) → Tripled n floor ts → (k : ℕ) → suc k < length ts
+    → keyOfTriple (getD ts k noTriple) < keyOfTriple (getD ts (suc k) noTriple)
+tripled-next n floor ts tripled-none k h = absurd (omega arith)
+tripled-next n floor ts (tripled-one {ts = us} l g r) zero h = let q = tripled-floor n _ us r (omega arith) in omega arith
+tripled-next n floor ts (tripled-one {ts = us} l g r) (suc k) h = tripled-next n _ us r k (omega arith)
+
 values-some : (s : Sheet) (r : Rule) → ((f : ℕ) → f < length (s .fields) → 1 ≤ counted s f) → RuleRight (length (s .fields)) (counted s) r
     → 1 ≤ length (r .values)
 values-some s r h g =
@@ -93,6 +115,9 @@ module _ (xs : List ℕ) (t : IsSheet xs) where
 
   in-rules : {r : ℕ} → r < rulesOf xs → r < length (t .sheet .rules)
   in-rules h = rw (rules-is xs t) at h
+
+  in-triples : {k : ℕ} → k < triplesOf xs → k < length (t .sheet .triples)
+  in-triples h = rw (triples-is xs t) at h
 
   first-in : {r : ℕ} → r < length (t .sheet .rules) → ruleOf (t .sheet) r .i < length (t .sheet .fields)
   first-in {r} h = let g = rule-right xs t r h in let a = g .apart in let b = g .within in omega arith
@@ -141,11 +166,41 @@ module _ (xs : List ℕ) (t : IsSheet xs) where
         let l = in-rules h in
         rw (first-is xs t r (omega arith), second-is xs t r (omega arith), first-is xs t (suc r) l, second-is xs t (suc r) l)
         (ruled-next (length (t .sheet .fields)) 0 (counted (t .sheet)) (t .sheet .rules) (t .right .ruled) r l);
+    triples-few = rw (triples-is xs t) (t .right .triples-few);
+    triple-end = λ k h. triple-ends xs t k (in-triples h);
+    triple-apart = λ k h.
+        let l = in-triples h in rw (triple-first-is xs t k l, triple-second-is xs t k l) (triple-right xs t k l .apart);
+    triple-above = λ k h.
+        let l = in-triples h in rw (triple-second-is xs t k l, triple-third-is xs t k l) (triple-right xs t k l .above);
+    triple-within = λ k h.
+        let l = in-triples h in rw (triple-third-is xs t k l, fields-count xs t) (triple-right xs t k l .within);
+    triple-amount-le = λ k h. let l = in-triples h in rw (triple-number-is xs t k l) (triple-right xs t k l .amount-le);
+    triple-rise = λ k h.
+        let l = in-triples h in
+        let m : k < length (t .sheet .triples) = omega arith in
+        rw (
+          triple-first-is xs t k m,
+          triple-second-is xs t k m,
+          triple-third-is xs t k m,
+          triple-first-is xs t (suc k) l,
+          triple-second-is xs t (suc k) l,
+          triple-third-is xs t (suc k) l,
+        )
+        (tripled-next (length (t .sheet .fields)) 0 (t .sheet .triples) (t .right .tripled) k l);
   }
 
 -- The facts of an accepted sheet.
 pub facts : (xs : List ℕ) → Accepted xs → Facts xs
 facts xs e = sheet-facts xs (sheet-in xs e)
+
+-- each rule's place, and that after the last, lies within the list or at its end
+rule-start-le : (xs : List ℕ) → Accepted xs → (r : ℕ) → r ≤ rulesOf xs → ruleStart xs r ≤ length xs
+unfolding ruleStart
+rule-start-le xs a zero h = facts xs a .tail-end
+rule-start-le xs a (suc r) h = facts xs a .rule-after r h
+
+pub triples-at-le : (xs : List ℕ) → Accepted xs → triplesAt xs ≤ length xs
+triples-at-le xs a = rule-start-le xs a (rulesOf xs) (omega arith)
 
 -- ---- a rule that stands at a place
 
@@ -158,3 +213,7 @@ module _ (xs : List ℕ) (r place : ℕ) (g : RuleAt xs r place) where
 
   pub mask-ends-at : (a : ℕ) → kindOf xs r ≡ 0 → a < countOf xs (firstOf xs r) → place + 3 + a < length xs
   mask-ends-at a z h = rw (g .at) (facts xs (g .accepted) .mask-lt r a (g .within) z h .1)
+
+-- a triple that stands at a place
+pub triple-ends-at : (xs : List ℕ) (t place : ℕ) → TripleAt xs t place → place + 3 < length xs
+triple-ends-at xs t place g = rw (g .at) (facts xs (g .accepted) .triple-end t (g .within))

@@ -13,6 +13,7 @@ use Rattle.limits.specs.Refusals.{RETIRED}
 use Rattle.grammar.specs.Grammar.{advance, start, noCounts}
 use Rattle.grammar.specs.declared.grammar.Expected.{Expected}
 use Rattle.grammar.specs.declared.grammar.Expected.the-variants.{Fields, Count, Setting, Reach, Rules, First, Second, Kind, Mask, Amount}
+use Rattle.grammar.specs.declared.grammar.Expected.the-variants.{Triples, TripleFirst, TripleSecond, TripleThird, TripleAmount}
 use Rattle.grammar.specs.declared.grammar.State.{State}
 use Rattle.grammar.specs.declared.grammar.State.the-variants.{Wants, Complete, OutOfRange, OutOfOrder}
 use Rattle.sheet.specs.Sources.{meets, refusal, ofNumbers, isRetired, retiredFrom, retired, writerRefusal, Accepted, Writable}
@@ -21,7 +22,7 @@ use Rattle.accepted.specs.Refused.{refusal-few}
 
 -- ---- the first fault
 
--- where the grammar is after some numbers: a refused one, and what follows the last rule, lead no further
+-- where the grammar is after some numbers: a refused one, and what follows the last triple, lead no further
 unfoldable pub leads : State → List ℕ → List ℕ → State
 leads st ds [] = st
 leads (Wants n e) ds (x ∷ xs) = leads (advance n e ds x .0) (advance n e ds x .1) xs
@@ -69,6 +70,11 @@ here n (First rules floor) ds x xs h = absurd (false≢true h)
 here n (Second rules floor i) ds x xs h = absurd (false≢true h)
 here n (Mask rules floor j more) ds x xs h = absurd (false≢true h)
 here n (Amount rules floor) ds x xs h = absurd (false≢true h)
+here n Triples ds x xs h = absurd (false≢true h)
+here n (TripleFirst triples floor) ds x xs h = absurd (false≢true h)
+here n (TripleSecond triples floor i) ds x xs h = absurd (false≢true h)
+here n (TripleThird triples floor i j) ds x xs h = absurd (false≢true h)
+here n (TripleAmount triples floor) ds x xs h = absurd (false≢true h)
 
 later : (n : ℕ) (e : Expected) (ds : List ℕ) (x : ℕ) (xs : List ℕ) → isRetired e x ≡ false
     → FirstRetired (advance n e ds x .0) (advance n e ds x .1) xs → FirstRetired (Wants n e) ds (x ∷ xs)

@@ -1,6 +1,6 @@
--- What pairs a rule allows, by its kind. Assumes nothing.
+-- What pairs a rule allows, by its kind, and what settings a triple allows. Assumes nothing.
 use mathlib.Core.Bool.{Bool, false}
-use Prim.Native.Nat.{ℕ, _+_, _-_}
+use Prim.Native.Nat.{ℕ, _+_, _-_, _*_}
 use lib.Dec.{leb, eqb}
 use Rattle.limits.specs.Limits.{encoderTolerance}
 use Rattle.masks.specs.Bits.{bit}
@@ -21,3 +21,7 @@ allows kind c p q b =
     (pick (eqb kind 4) (leb (distance p q) c)
     (pick (eqb kind 5) (leb (distance (distance p q) c) encoderTolerance)
     false)))))
+
+-- With p, q and r the settings of a triple's fields i, j and k, and c its number: p + r and 2 * q differ by at most c (02, request 12).
+abbrev pub evenDraft : (c p q r : ℕ) → Bool
+evenDraft c p q r = leb (distance (p + r) (2 * q)) c

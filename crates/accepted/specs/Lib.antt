@@ -6,6 +6,7 @@ pub mod Parts
 pub mod Accept
 pub mod AcceptedFields
 pub mod AcceptedRules
+pub mod AcceptedTriples
 pub mod AcceptedSheet
 pub mod RightSheet
 pub mod Sizes

@@ -2,14 +2,15 @@
 use mathlib.Core.Path.{_≡_, refl, ap, _∙_}
 use mathlib.Core.Bool.{Bool}
 use mathlib.Core.List.{List}
-use Prim.Native.Nat.{ℕ, zero, suc, _+_, _<_}
+use Prim.Native.Nat.{ℕ, zero, suc, _+_, _*_, _<_}
 use native.Mathlib.Numerals.{add-one}
+use native.Mathlib.Omega.{arith}
 use lib.Dec.{eqb}
 use lib.ListN.{getD}
 use borrow.Author.Tests.{eq-eqb, ne-eqb}
 use Rattle.masks.specs.Pick.{pick, pick-true, pick-false}
 use Rattle.sheet.specs.Sources.{Accepted}
-use Rattle.accepted.specs.Kinds.{allows}
+use Rattle.accepted.specs.Kinds.{allows, evenDraft}
 
 -- the place of field f's count; its settings stand after it
 unfoldable pub fieldStart : List ℕ → ℕ → ℕ
@@ -65,6 +66,37 @@ numberOf xs r a = pick (eqb (kindOf xs r) 0) (valueOf xs r a) (valueOf xs r 0)
 abbrev pub ruleAllows : List ℕ → ℕ → ℕ → ℕ → Bool
 ruleAllows xs r a b = allows (kindOf xs r) (numberOf xs r a) (settingOf xs (firstOf xs r) a) (settingOf xs (secondOf xs r) b) b
 
+-- the place of the count of triples; past the end where the sheet ends after its rules
+abbrev pub triplesAt : List ℕ → ℕ
+triplesAt xs = ruleStart xs (rulesOf xs)
+
+-- how many triples; 0 where the sheet ends after its rules
+abbrev pub triplesOf : List ℕ → ℕ
+triplesOf xs = getD xs (triplesAt xs) 0
+
+-- the place of triple t's first field; the second, the third and its number stand after it
+abbrev pub tripleStart : List ℕ → ℕ → ℕ
+tripleStart xs t = triplesAt xs + 1 + t * 4
+
+-- the fields i, j and k of triple t, and its number c
+abbrev pub tripleFirst : List ℕ → ℕ → ℕ
+tripleFirst xs t = getD xs (tripleStart xs t) 0
+
+abbrev pub tripleSecond : List ℕ → ℕ → ℕ
+tripleSecond xs t = getD xs (tripleStart xs t + 1) 0
+
+abbrev pub tripleThird : List ℕ → ℕ → ℕ
+tripleThird xs t = getD xs (tripleStart xs t + 2) 0
+
+abbrev pub tripleNumber : List ℕ → ℕ → ℕ
+tripleNumber xs t = getD xs (tripleStart xs t + 3) 0
+
+-- whether triple t allows position a of its first field with position b of its second and position d of its third
+abbrev pub tripleAllows : List ℕ → ℕ → ℕ → ℕ → ℕ → Bool
+tripleAllows xs t a b d =
+    evenDraft (tripleNumber xs t) (settingOf xs (tripleFirst xs t) a) (settingOf xs (tripleSecond xs t) b)
+    (settingOf xs (tripleThird xs t) d)
+
 -- ---- what an accessor requires
 
 -- field f of a sheet
@@ -82,6 +114,12 @@ pub record RuleAt (xs : List ℕ) (r place : ℕ) : Type 0 where
   pub accepted : Accepted xs
   pub within : r < rulesOf xs
   pub at : place ≡ ruleStart xs r
+
+-- triple t of a sheet, whose first field stands at a place
+pub record TripleAt (xs : List ℕ) (t place : ℕ) : Type 0 where
+  pub accepted : Accepted xs
+  pub within : t < triplesOf xs
+  pub at : place ≡ tripleStart xs t
 
 -- ---- the places one after the other
 
@@ -106,3 +144,9 @@ after-masks xs r z = rule-next xs r ∙ ap (λ (k : ℕ). ruleStart xs r + 3 + k
 
 pub after-number : (xs : List ℕ) (r : ℕ) → (kindOf xs r ≡ 0 → ⊥) → ruleStart xs (r + 1) ≡ ruleStart xs r + 3 + 1
 after-number xs r z = rule-next xs r ∙ ap (λ (k : ℕ). ruleStart xs r + 3 + k) (pick-false _ _ _ (ne-eqb _ 0 z))
+
+pub triple-first : (xs : List ℕ) → tripleStart xs 0 ≡ triplesAt xs + 1
+triple-first xs = omega arith
+
+pub triple-next : (xs : List ℕ) (t : ℕ) → tripleStart xs (t + 1) ≡ tripleStart xs t + 4
+triple-next xs t = omega arith

@@ -2,8 +2,10 @@
 use mathlib.Core.List.{List, [], _∷_}
 use Prim.Native.Nat.{ℕ, _≤_}
 use native.Mathlib.Omega.{arith}
-use Rattle.grammar.specs.Grammar.{advance, start, noCounts, atEnd}
+use Rattle.grammar.specs.Grammar.{advance, start, noCounts, endsBefore, atEnd}
 use Rattle.grammar.specs.declared.grammar.Expected.{Expected}
+use Rattle.grammar.specs.declared.grammar.Expected.the-variants.{Fields, Count, Setting, Reach, Rules, First, Second, Kind, Mask, Amount}
+use Rattle.grammar.specs.declared.grammar.Expected.the-variants.{Triples, TripleFirst, TripleSecond, TripleThird, TripleAmount}
 use Rattle.grammar.specs.declared.grammar.State.{State}
 use Rattle.grammar.specs.declared.grammar.State.the-variants.{Wants, Complete, OutOfRange, OutOfOrder}
 use Rattle.sheet.specs.Sources.{Item, num, cut, ill, meets, refusalFrom, refusal}
@@ -14,8 +16,25 @@ meets-few Complete f h = omega arith
 meets-few OutOfRange f h = omega arith
 meets-few OutOfOrder f h = omega arith
 
+before-few : (e : Expected) → endsBefore e ≤ 5
+before-few Fields = omega arith
+before-few (Count f) = omega arith
+before-few (Setting f more floor) = omega arith
+before-few Reach = omega arith
+before-few Rules = omega arith
+before-few (First rules floor) = omega arith
+before-few (Second rules floor i) = omega arith
+before-few (Kind rules i j) = omega arith
+before-few (Mask rules floor j more) = omega arith
+before-few (Amount rules floor) = omega arith
+before-few Triples = omega arith
+before-few (TripleFirst triples floor) = omega arith
+before-few (TripleSecond triples floor i) = omega arith
+before-few (TripleThird triples floor i j) = omega arith
+before-few (TripleAmount triples floor) = omega arith
+
 end-few : (st : State) → atEnd st ≤ 5
-end-few (Wants n e) = omega arith
+end-few (Wants n e) = before-few e
 end-few Complete = omega arith
 end-few OutOfRange = omega arith
 end-few OutOfOrder = omega arith

@@ -11,15 +11,16 @@ use lib.ListN.{length, getD, set, length-set}
 use lib.Seq.{getD-set-same, getD-set-other}
 use borrow.Author.Tests.{lt-ltb, le-ltb, le-leb, eq-eqb, ne-eqb}
 use Rattle.masks.specs.Pick.{pick, pick-true, pick-false}
-use Rattle.limits.specs.Limits.{mostFields, mostSettings, largestSetting, wholeReach, mostRules, lastKind, retiredKind}
-use Rattle.grammar.specs.Grammar.{advance, start, noCounts, upTo, afterField, afterRule, afterKind, key}
+use Rattle.limits.specs.Limits.{mostFields, mostSettings, largestSetting, wholeReach, mostRules, mostTriples, lastKind, retiredKind}
+use Rattle.grammar.specs.Grammar.{advance, start, noCounts, upTo, afterField, afterRule, afterKind, key, afterTriple, tripleKey}
 use Rattle.sheet.specs.Sources.{refusalFrom, ofNumbers, retiredFrom}
 use Rattle.accepted.specs.Sheets.{Rule, Sheet, fieldsNumbers, rulesNumbers, sheetNumbers, Rises, rises-none, rises-one, Below}
 use Rattle.accepted.specs.Sheets.{below-none, below-one, FieldRight, ValuesRight, RuleRight, Ruled, ruled-none, ruled-one, Right}
-use Rattle.accepted.specs.Sheets.{counted, retiredRules}
+use Rattle.accepted.specs.Sheets.{counted, retiredRules, Triple, triplesNumbers, triplesPart, TripleRight, keyOfTriple}
+use Rattle.accepted.specs.Sheets.{Tripled, tripled-none, tripled-one}
 use Rattle.accepted.specs.AcceptedRules.{dOf}
 use Rattle.accepted.specs.AcceptedSheet.{ruled-same}
-use Rattle.grammar.specs.declared.grammar.Expected.the-variants.{Count, Setting, Reach, First, Mask, Amount}
+use Rattle.grammar.specs.declared.grammar.Expected.the-variants.{Count, Setting, Reach, First, Mask, Amount, Triples, TripleFirst}
 use Rattle.grammar.specs.declared.grammar.State.{State}
 use Rattle.grammar.specs.declared.grammar.State.the-variants.{Wants, Complete}
 
@@ -148,18 +149,52 @@ rule-by left floor n ds rest r l g p h =
     (to-true _ _ _ ds (r .kind ∷ (r .values ++ rest)) (ap₂ _&&_ (lt-ltb (r .i) (r .j) a) (le-leb floor (key (r .i) (r .j)) l))
     (taken .0, ap (λ (m : Bool). eqb (r .kind) retiredKind || m) (taken .1))))
 
-rules-by : (floor n : ℕ) (ds : List ℕ) (rs : List Rule) → ((k : ℕ) → k < n → 1 ≤ getD ds k 0) → Ruled n (dOf ds) floor rs
-    → Taken (afterRule n (length rs) floor) ds (rulesNumbers rs) (retiredRules rs)
-unfolding refusalFrom retiredFrom rulesNumbers retiredRules
-rules-by floor n ds rs p ruled-none = after-none 0 Complete (Wants n (First (0 - 1) floor)) ds [] refl (refl, refl)
-rules-by floor n ds rs p (ruled-one {r = r} {rs = ts} l g t) =
+rules-by : (floor n : ℕ) (ds rest : List ℕ) (rs : List Rule) → ((k : ℕ) → k < n → 1 ≤ getD ds k 0) → Ruled n (dOf ds) floor rs
+    → Taken (Wants n Triples) ds rest false → Taken (afterRule n (length rs) floor) ds (rulesNumbers rs ++ rest) (retiredRules rs)
+unfolding rulesNumbers retiredRules
+rules-by floor n ds rest rs p ruled-none h = after-none 0 (Wants n Triples) (Wants n (First (0 - 1) floor)) ds rest refl h
+rules-by floor n ds rest rs p (ruled-one {r = r} {rs = ts} l g t) h =
     let a = g .apart in
     let b = g .within in
     let e : length ts ≡ suc (length ts) - 1 = omega arith in
-    after-more (suc (length ts)) Complete (Wants n (First (suc (length ts) - 1) floor)) ds
-    (r .i ∷ r .j ∷ r .kind ∷ (r .values ++ rulesNumbers ts)) (omega arith)
-    (rw (sym e)
-    (rule-by (length ts) floor n ds (rulesNumbers ts) r l g (p (r .i) (omega arith)) (rules-by (key (r .i) (r .j) + 1) n ds ts p t)))
+    after-more (suc (length ts)) (Wants n Triples) (Wants n (First (suc (length ts) - 1) floor)) ds
+    (r .i ∷ r .j ∷ r .kind ∷ ((r .values ++ rulesNumbers ts) ++ rest)) (omega arith)
+    (rw (sym e, append-assoc (r .values) (rulesNumbers ts) rest)
+    (rule-by (length ts) floor n ds (rulesNumbers ts ++ rest) r l g (p (r .i) (omega arith))
+    (rules-by (key (r .i) (r .j) + 1) n ds rest ts p t h)))
+
+triple-by : {met : Bool} (left floor n : ℕ) (ds rest : List ℕ) (t : Triple) → floor ≤ keyOfTriple t → TripleRight n t
+    → Taken (afterTriple n left (keyOfTriple t + 1)) ds rest met
+    → Taken (Wants n (TripleFirst left floor)) ds (t .i ∷ t .j ∷ t .k ∷ t .c ∷ rest) met
+unfolding refusalFrom retiredFrom advance
+triple-by left floor n ds rest t l g h =
+    let a = g .apart in
+    let b = g .above in
+    let w = g .within in
+    to-true _ _ _ ds (t .j ∷ t .k ∷ t .c ∷ rest) (lt-ltb (t .i) n (omega arith))
+    (to-true _ _ _ ds (t .k ∷ t .c ∷ rest) (lt-ltb (t .j) n (omega arith))
+    (to-true _ _ _ ds (t .k ∷ t .c ∷ rest) (lt-ltb (t .i) (t .j) a)
+    (to-true _ _ _ ds (t .c ∷ rest) (lt-ltb (t .k) n w)
+    (to-true _ _ _ ds (t .c ∷ rest) (ap₂ _&&_ (lt-ltb (t .j) (t .k) b) (le-leb floor (tripleKey (t .i) (t .j) (t .k)) l))
+    (to-true _ _ _ ds rest (le-leb (t .c) largestSetting (g .amount-le)) h)))))
+
+triples-by : (floor n : ℕ) (ds : List ℕ) (ts : List Triple) → Tripled n floor ts
+    → Taken (afterTriple n (length ts) floor) ds (triplesNumbers ts) false
+unfolding refusalFrom retiredFrom triplesNumbers
+triples-by floor n ds ts tripled-none = after-none 0 Complete (Wants n (TripleFirst (0 - 1) floor)) ds [] refl (refl, refl)
+triples-by floor n ds ts (tripled-one {t = t} {ts = us} l g r) =
+    let e : length us ≡ suc (length us) - 1 = omega arith in
+    after-more (suc (length us)) Complete (Wants n (TripleFirst (suc (length us) - 1) floor)) ds
+    (t .i ∷ t .j ∷ t .k ∷ t .c ∷ triplesNumbers us) (omega arith)
+    (rw (sym e) (triple-by (length us) floor n ds (triplesNumbers us) t l g (triples-by (keyOfTriple t + 1) n ds us r)))
+
+-- what stands after the rules
+part-by : (n : ℕ) (ds : List ℕ) (ts : List Triple) → length ts ≤ mostTriples → Tripled n 0 ts
+    → Taken (Wants n Triples) ds (triplesPart ts) false
+unfolding refusalFrom retiredFrom advance triplesPart
+part-by n ds [] few r = (refl, refl)
+part-by n ds (t ∷ ts) few r =
+    to-true _ _ _ ds (triplesNumbers (t ∷ ts)) (upTo-by mostTriples (length (t ∷ ts)) (omega arith) few) (triples-by 0 n ds (t ∷ ts) r)
 
 -- The numbers of a right sheet are accepted, and the retired kind is among them where a rule has it.
 pub right-taken : (s : Sheet) → Right s → Taken start noCounts (sheetNumbers s) (retiredRules (s .rules))
@@ -172,12 +207,14 @@ right-taken s g =
     let ds = countsFrom noCounts 0 fs in
     let same : (k : ℕ) → k < n → counted s k ≡ getD ds k 0 =
     λ k h. sym (ap (λ (i : ℕ). getD ds i 0) (sym (zero-add k)) ∙ counts-after noCounts 0 fs k (omega arith) h) in
-    let rest = s .reach ∷ length (s .rules) ∷ rulesNumbers (s .rules) in
+    let last = rulesNumbers (s .rules) ++ triplesPart (s .triples) in
+    let rest = s .reach ∷ length (s .rules) ∷ last in
     to-true _ _ _ noCounts (fieldsNumbers fs ++ rest) (upTo-by mostFields n p q)
     (rw (pick-true (ltb 0 n) (Wants n (Count 0)) (Wants n Reach) (lt-ltb 0 n p)) at
     (fields-by fs 0 n noCounts rest (g .field) (zero-add n)
-    (to-true _ _ _ ds (length (s .rules) ∷ rulesNumbers (s .rules))
+    (to-true _ _ _ ds (length (s .rules) ∷ last)
     (upTo-by wholeReach (s .reach) (g .reach-some) (g .reach-few))
-    (to-true _ _ _ ds (rulesNumbers (s .rules)) (le-leb (length (s .rules)) mostRules (g .rules-few))
-    (rules-by 0 n ds (s .rules) (λ k h. rw (← same k h) (g .field k h .some))
-    (ruled-same n 0 (counted s) (dOf ds) (s .rules) same (g .ruled)))))))
+    (to-true _ _ _ ds last (le-leb (length (s .rules)) mostRules (g .rules-few))
+    (rules-by 0 n ds (triplesPart (s .triples)) (s .rules) (λ k h. rw (← same k h) (g .field k h .some))
+    (ruled-same n 0 (counted s) (dOf ds) (s .rules) same (g .ruled))
+    (part-by n ds (s .triples) (g .triples-few) (g .tripled)))))))

@@ -1,4 +1,4 @@
--- A sheet as fields, a reach and rules, its numbers, and what makes it right. Assumes nothing.
+-- A sheet as fields, a reach, rules and triples, its numbers, and what makes it right. Assumes nothing.
 use mathlib.Core.Path.{_≡_}
 use mathlib.Core.Logic.{_⊎_}
 use mathlib.Core.Bool.{Bool, false, _||_}
@@ -6,8 +6,8 @@ use mathlib.Core.List.{List, [], _∷_, _++_}
 use Prim.Native.Nat.{ℕ, _+_, _^_, _<_, _≤_}
 use lib.Dec.{eqb}
 use lib.ListN.{length, getD}
-use Rattle.limits.specs.Limits.{mostFields, mostSettings, largestSetting, wholeReach, mostRules, lastKind, retiredKind}
-use Rattle.grammar.specs.Grammar.{key}
+use Rattle.limits.specs.Limits.{mostFields, mostSettings, largestSetting, wholeReach, mostRules, mostTriples, lastKind, retiredKind}
+use Rattle.grammar.specs.Grammar.{key, tripleKey}
 
 -- a rule: its fields i and j, its kind, and its numbers: masks, or c
 pub record Rule : Type 0 where
@@ -16,11 +16,19 @@ pub record Rule : Type 0 where
   pub kind : ℕ
   pub values : List ℕ
 
--- a sheet: the settings of each field, the reach, and the rules
+-- a triple: its fields i, j and k, and c
+pub record Triple : Type 0 where
+  pub i : ℕ
+  pub j : ℕ
+  pub k : ℕ
+  pub c : ℕ
+
+-- a sheet: the settings of each field, the reach, the rules, and the triples
 pub record Sheet : Type 0 where
   pub fields : List (List ℕ)
   pub reach : ℕ
   pub rules : List Rule
+  pub triples : List Triple
 
 -- their numbers: each field's count and settings
 unfoldable pub fieldsNumbers : List (List ℕ) → List ℕ
@@ -32,9 +40,21 @@ unfoldable pub rulesNumbers : List Rule → List ℕ
 rulesNumbers [] = []
 rulesNumbers (r ∷ rs) = r .i ∷ r .j ∷ r .kind ∷ (r .values ++ rulesNumbers rs)
 
--- the list that a sheet is: fields n, the fields, the reach, rules e, the rules
+-- each triple's fields and c
+unfoldable pub triplesNumbers : List Triple → List ℕ
+triplesNumbers [] = []
+triplesNumbers (t ∷ ts) = t .i ∷ t .j ∷ t .k ∷ t .c ∷ triplesNumbers ts
+
+-- what stands after the rules: nothing, or the count of triples and the triples
+unfoldable pub triplesPart : List Triple → List ℕ
+triplesPart [] = []
+triplesPart (t ∷ ts) = length (t ∷ ts) ∷ triplesNumbers (t ∷ ts)
+
+-- the list that a sheet is: fields n, the fields, the reach, rules e, the rules, and the triples where it has some
 unfoldable pub sheetNumbers : Sheet → List ℕ
-sheetNumbers s = length (s .fields) ∷ (fieldsNumbers (s .fields) ++ (s .reach ∷ length (s .rules) ∷ rulesNumbers (s .rules)))
+sheetNumbers s =
+    length (s .fields)
+    ∷ (fieldsNumbers (s .fields) ++ (s .reach ∷ length (s .rules) ∷ (rulesNumbers (s .rules) ++ triplesPart (s .triples))))
 
 -- settings from a floor on, strictly rising
 pub data Rises : ℕ → List ℕ → Type 0 where
@@ -71,6 +91,23 @@ pub data Ruled (n : ℕ) (d : ℕ → ℕ) : ℕ → List Rule → Type 0 where
   ruled-one : {floor : ℕ} {r : Rule} {rs : List Rule} → floor ≤ key (r .i) (r .j) → RuleRight n d r → Ruled n d (key (r .i) (r .j) + 1) rs
       → Ruled n d floor (r ∷ rs)
 
+-- i below j below k below n, and c at most the largest setting
+pub record TripleRight (n : ℕ) (t : Triple) : Type 0 where
+  pub apart : t .i < t .j
+  pub above : t .j < t .k
+  pub within : t .k < n
+  pub amount-le : t .c ≤ largestSetting
+
+-- the place of a triple in the order
+abbrev pub keyOfTriple : Triple → ℕ
+keyOfTriple t = tripleKey (t .i) (t .j) (t .k)
+
+-- triples from a floor on, strictly rising by (i, j, k)
+pub data Tripled (n : ℕ) : ℕ → List Triple → Type 0 where
+  tripled-none : {floor : ℕ} → Tripled n floor []
+  tripled-one : {floor : ℕ} {t : Triple} {ts : List Triple} → floor ≤ keyOfTriple t → TripleRight n t → Tripled n (keyOfTriple t + 1) ts
+      → Tripled n floor (t ∷ ts)
+
 -- whether some rule is of the retired kind, which the writer refuses
 unfoldable pub retiredRules : List Rule → Bool
 retiredRules [] = false
@@ -80,7 +117,7 @@ retiredRules (r ∷ rs) = eqb (r .kind) retiredKind || retiredRules rs
 abbrev pub counted : Sheet → ℕ → ℕ
 counted s f = length (getD (s .fields) f [])
 
--- A right sheet: 1 to 24 fields, a reach of 1 to 24, and at most 276 rules.
+-- A right sheet: 1 to 24 fields, a reach of 1 to 24, at most 276 rules, and at most 32 triples.
 pub record Right (s : Sheet) : Type 0 where
   pub some : 1 ≤ length (s .fields)
   pub few : length (s .fields) ≤ mostFields
@@ -89,6 +126,8 @@ pub record Right (s : Sheet) : Type 0 where
   pub reach-few : s .reach ≤ wholeReach
   pub rules-few : length (s .rules) ≤ mostRules
   pub ruled : Ruled (length (s .fields)) (counted s) 0 (s .rules)
+  pub triples-few : length (s .triples) ≤ mostTriples
+  pub tripled : Tripled (length (s .fields)) 0 (s .triples)
 
 -- A list of numbers that is the numbers of a right sheet.
 pub record IsSheet (xs : List ℕ) : Type 0 where

@@ -10,10 +10,11 @@ use lib.Pow.{pow-mono}
 use lib.ListN.{length, getD, length-append}
 use borrow.Author.Tests.{ltb-true, ltb-false}
 use Rattle.groups.specs.Groups.{encode, size-1, size-2, size-3, size-4}
-use Rattle.limits.specs.Limits.{mostFields, mostSettings, largestSetting, mostBytes, mostNumbers}
+use Rattle.limits.specs.Limits.{mostFields, mostSettings, largestSetting, mostTriples, mostBytes, mostNumbers}
 use Rattle.sheet.specs.Sources.{bytesOf, Accepted}
 use Rattle.accepted.specs.Sheets.{Rule, Sheet, fieldsNumbers, rulesNumbers, sheetNumbers, Rises, rises-none, rises-one, Below}
 use Rattle.accepted.specs.Sheets.{below-none, below-one, FieldRight, ValuesRight, Ruled, ruled-none, ruled-one, Right, counted}
+use Rattle.accepted.specs.Sheets.{Triple, triplesNumbers, triplesPart, Tripled, tripled-none, tripled-one}
 use Rattle.accepted.specs.AcceptedSheet.{sheet-in}
 
 -- ---- how many groups
@@ -138,19 +139,46 @@ sized-rules n floor d rs m h (ruled-one {r = r} {rs = ts} l g t) =
     (sized-one 1 _ _ (r .kind) _ (omega (arith, size-1 (r .kind) (omega arith))) (omega arith)
     (sized-append _ _ _ _ (r .values) (rulesNumbers ts) (sized-values n d r h (omega arith) b (g .numbers)) (sized-rules n _ d ts m h t)))))
 
+sized-triples : (n floor : ℕ) (ts : List Triple) → n ≤ mostFields → Tripled n floor ts
+    → Sized (6 * length ts) (4 * length ts) (triplesNumbers ts)
+unfolding triplesNumbers
+sized-triples n floor ts m tripled-none = sized-none
+sized-triples n floor ts m (tripled-one {t = t} {ts = us} l g r) =
+    let a = g .apart in
+    let b = g .above in
+    let w = g .within in
+    let c = g .amount-le in
+    sized-more (1 + (1 + (1 + (3 + 6 * length us)))) (suc (suc (suc (suc (4 * length us))))) _ _ _ (omega arith) (omega arith)
+    (sized-one 1 _ _ (t .i) _ (omega (arith, size-1 (t .i) (omega arith))) (omega arith)
+    (sized-one 1 _ _ (t .j) _ (omega (arith, size-1 (t .j) (omega arith))) (omega arith)
+    (sized-one 1 _ _ (t .k) _ (omega (arith, size-1 (t .k) (omega arith))) (omega arith)
+    (sized-one 3 _ _ (t .c) _ (setting-groups (t .c) c) (omega arith) (sized-triples n _ us m r)))))
+
+-- the count of triples and the triples
+sized-part : (n : ℕ) (ts : List Triple) → n ≤ mostFields → length ts ≤ mostTriples → Tripled n 0 ts
+    → Sized (1 + 6 * mostTriples) (1 + 4 * mostTriples) (triplesPart ts)
+unfolding triplesPart
+sized-part n [] m few r = sized-more 0 0 _ _ _ (omega arith) (omega arith) sized-none
+sized-part n (t ∷ ts) m few r =
+    sized-more (1 + 6 * length (t ∷ ts)) (suc (4 * length (t ∷ ts))) _ _ _ (omega arith) (omega arith)
+    (sized-one 1 _ _ (length (t ∷ ts)) _ (omega (arith, size-1 (length (t ∷ ts)) (omega arith))) (omega arith)
+    (sized-triples n 0 (t ∷ ts) m r))
+
 sized-sheet : (s : Sheet) → Right s → Sized mostBytes mostNumbers (sheetNumbers s)
 unfolding sheetNumbers
 sized-sheet s g =
     let w = g .few in
     let m = g .rules-few in
     let a = g .reach-few in
-    sized-more (1 + (73 * length (s .fields) + (1 + (2 + 99 * length (s .rules)))))
-    (suc (25 * length (s .fields) + suc (suc (27 * length (s .rules))))) _ _ _ (omega arith) (omega arith)
+    sized-more (1 + (73 * length (s .fields) + (1 + (2 + (99 * length (s .rules) + (1 + 6 * mostTriples))))))
+    (suc (25 * length (s .fields) + suc (suc (27 * length (s .rules) + (1 + 4 * mostTriples))))) _ _ _ (omega arith) (omega arith)
     (sized-one 1 _ _ (length (s .fields)) _ (omega (arith, size-1 (length (s .fields)) (omega arith))) (omega arith)
     (sized-append _ _ _ _ (fieldsNumbers (s .fields)) _ (sized-fields (s .fields) (g .field))
     (sized-one 1 _ _ (s .reach) _ (omega (arith, size-1 (s .reach) (omega arith))) (omega arith)
     (sized-one 2 _ _ (length (s .rules)) _ (groups-two (length (s .rules)) (omega arith)) (omega arith)
-    (sized-rules (length (s .fields)) 0 (counted s) (s .rules) w (λ k h. g .field k h .few) (g .ruled))))))
+    (sized-append _ _ _ _ (rulesNumbers (s .rules)) (triplesPart (s .triples))
+    (sized-rules (length (s .fields)) 0 (counted s) (s .rules) w (λ k h. g .field k h .few) (g .ruled))
+    (sized-part (length (s .fields)) (s .triples) w (g .triples-few) (g .tripled)))))))
 
 pub sized-in : (xs : List ℕ) → Accepted xs → Sized mostBytes mostNumbers xs
 sized-in xs e = let t = sheet-in xs e in rw (t .split) (sized-sheet (t .sheet) (t .right))

@@ -39,7 +39,7 @@ writable-right xs w =
 pub right-is-writable : (xs : List ℕ) (t : IsSheet xs) → retiredRules (t .sheet .rules) ≡ false → Writable xs
 right-is-writable xs t h = accepted-writable xs (right-is-accepted xs t) (right-retired xs t ∙ h)
 
--- An accepted sheet has at most 8,055 numbers and 29,080 bytes.
+-- An accepted sheet has at most 8,184 numbers and 29,273 bytes.
 pub most-numbers : (xs : List ℕ) → Accepted xs → length xs ≤ mostNumbers
 most-numbers xs e = sized-in xs e .count
 
@@ -93,14 +93,14 @@ pub read-refused : (s before : List ℕ) → retired (numbers (ofBytes s)) ≡ t
 unfolding pick
 read-refused s before h = rw h
 
--- An accepted sheet has at most 29,080 bytes and 8,055 numbers, whichever of the two it is given as.
+-- An accepted sheet has at most 29,273 bytes and 8,184 numbers, whichever of the two it is given as.
 pub most-sheet-bytes : (s : List ℕ) → AcceptedBytes s → length s ≤ mostBytes
 most-sheet-bytes s e = rw (← exact s e) (most-bytes _ (bytes-accepted s e))
 
 pub most-sheet-numbers : (s : List ℕ) → AcceptedBytes s → length (numbers (ofBytes s)) ≤ mostNumbers
 most-sheet-numbers s e = most-numbers (numbers (ofBytes s)) (bytes-accepted s e)
 
--- Over an output of 8,055 words or more, reading is never refused by 6.
+-- Over an output of 8,184 words or more, reading is never refused by 6.
 pub enough-room : (s before : List ℕ) → mostNumbers ≤ length before
     → reading s before ≡ pick (eqb (refusal (ofBytes s)) 0) (giving (numbers (ofBytes s)) before) (refusing (refusal (ofBytes s)) before)
 enough-room s before h = go (eqb (refusal (ofBytes s)) 0) refl

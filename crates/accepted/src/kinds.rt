@@ -1,7 +1,7 @@
-// What pairs of settings a rule allows, by its kind.
+// What pairs of settings a rule allows, by its kind, and what settings a triple allows.
 ghost use mathlib.Core.Path.{_≡_};
 ghost use Rattle.masks.specs.Bits.{bit};
-ghost use Rattle.accepted.specs.Kinds.{distance, allows};
+ghost use Rattle.accepted.specs.Kinds.{distance, allows, evenDraft};
 use limits::ENCODER_TOLERANCE;
 use masks::has_bit;
 
@@ -42,4 +42,13 @@ pub fn allowed(kind: u32, c: u32, p: u32, q: u32, b: u32) -> bool
         }
         _ => false,
     }
+}
+
+// Whether a triple allows three settings: p is that of i, q that of j and r that of k; c is the triple's number.
+pub fn even_draft(c: u32, p: u32, q: u32, r: u32) -> bool
+    ensures { λ result. ⌜ result ≡ evenDraft c p q r ⌝ }
+{
+    let ends = (p as u64) + (r as u64);
+    let middle = 2 * (q as u64);
+    distance(ends, middle) <= (c as u64)
 }

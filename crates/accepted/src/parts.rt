@@ -3,8 +3,9 @@ ghost use mathlib.Core.Path.{_≡_};
 ghost use Prim.Native.Nat.{_+_, _<_, _≤_};
 ghost use lib.ListN.{length, getD};
 ghost use Rattle.sheet.specs.Sources.{Accepted};
-ghost use Rattle.accepted.specs.Parts.{Field, FieldAt, RuleAt, fieldsOf, fieldStart, countOf, settingOf, reachOf, rulesOf};
-ghost use Rattle.accepted.specs.Parts.{ruleStart, firstOf, secondOf, kindOf, numberOf};
+ghost use Rattle.accepted.specs.Parts.{Field, FieldAt, RuleAt, TripleAt, fieldsOf, fieldStart, countOf, settingOf, reachOf, rulesOf};
+ghost use Rattle.accepted.specs.Parts.{ruleStart, firstOf, secondOf, kindOf, numberOf, triplesAt, triplesOf};
+ghost use Rattle.accepted.specs.Parts.{tripleStart, tripleFirst, tripleSecond, tripleThird, tripleNumber};
 
 fn at(numbers: &[u32], place: usize) -> u32
     requires { ⌜ place < length (now numbers) ⌝ }
@@ -143,5 +144,80 @@ pub fn number(numbers: &[u32], r: usize, place: usize, a: usize) -> u32
     if kind(numbers, r, place) == 0 {
         return at(numbers, place + 3 + a);
     }
+    at(numbers, place + 3)
+}
+
+// The place of the count of triples; the end where there is none.
+pub fn triples_at(numbers: &[u32]) -> usize
+    requires { ⌜ Accepted (now numbers) ⌝ }
+    ensures { λ r. ⌜ r ≡ triplesAt (now (numbers .entry)) ⌝ }
+{
+    let count = rules(numbers);
+    let mut place = rules_start(numbers);
+    let mut k: usize = 0;
+    while k < count {
+        place = after_rule(numbers, k, place);
+        k += 1;
+    }
+    place
+}
+
+// How many triples, where their count stands at a place, or the end does.
+pub fn triples_from(numbers: &[u32], place: usize) -> usize
+    requires { ⌜ Accepted (now numbers) × (place ≡ triplesAt (now numbers)) ⌝ }
+    ensures { λ r. ⌜ r ≡ triplesOf (now (numbers .entry)) ⌝ }
+{
+    if place < numbers.len() {
+        at(numbers, place) as usize
+    } else {
+        0
+    }
+}
+
+// How many triples.
+pub fn triples(numbers: &[u32]) -> usize
+    requires { ⌜ Accepted (now numbers) ⌝ }
+    ensures { λ r. ⌜ r ≡ triplesOf (now (numbers .entry)) ⌝ }
+{
+    triples_from(numbers, triples_at(numbers))
+}
+
+// The place of the first triple; past the end where there is none.
+pub fn triples_start(numbers: &[u32]) -> usize
+    requires { ⌜ Accepted (now numbers) ⌝ }
+    ensures { λ r. ⌜ r ≡ tripleStart (now (numbers .entry)) 0 ⌝ }
+{
+    triples_at(numbers) + 1
+}
+
+// The first field of triple t, which stands at a place.
+pub fn triple_first(numbers: &[u32], t: usize, place: usize) -> usize
+    requires { ⌜ TripleAt (now numbers) t place ⌝ }
+    ensures { λ i. ⌜ i ≡ tripleFirst (now (numbers .entry)) t ⌝ }
+{
+    at(numbers, place) as usize
+}
+
+// Its second field.
+pub fn triple_second(numbers: &[u32], t: usize, place: usize) -> usize
+    requires { ⌜ TripleAt (now numbers) t place ⌝ }
+    ensures { λ j. ⌜ j ≡ tripleSecond (now (numbers .entry)) t ⌝ }
+{
+    at(numbers, place + 1) as usize
+}
+
+// Its third field.
+pub fn triple_third(numbers: &[u32], t: usize, place: usize) -> usize
+    requires { ⌜ TripleAt (now numbers) t place ⌝ }
+    ensures { λ k. ⌜ k ≡ tripleThird (now (numbers .entry)) t ⌝ }
+{
+    at(numbers, place + 2) as usize
+}
+
+// Its number.
+pub fn triple_number(numbers: &[u32], t: usize, place: usize) -> u32
+    requires { ⌜ TripleAt (now numbers) t place ⌝ }
+    ensures { λ c. ⌜ c ≡ tripleNumber (now (numbers .entry)) t ⌝ }
+{
     at(numbers, place + 3)
 }

@@ -9,7 +9,7 @@ use Rattle.masks.specs.Sets.{has, only, count, same, pad}
 use Rattle.masks.specs.Settings.{cut, empty, someEmpty}
 use Rattle.masks.specs.Pick.{pick}
 use Rattle.consistency.specs.Largest.{sweep, sweeps, largest}
-use Rattle.consistency.specs.Problem.{allFields}
+use Rattle.consistency.specs.Problem.{listTriples, allFields, linked}
 use Rattle.consistency.specs.Closing.{partner, supportedBy, supported, closing}
 use Rattle.consistency.specs.Neighbourhood.{widen, fieldsWithin, neighbourhood}
 use Rattle.consistency.specs.Passing.{noneEmpty, passesOver}
@@ -38,7 +38,7 @@ unfolding pageOf text lines line blankEach offered decimal digits refusedLine re
     occurrences sheetProblem pairs runs outlineOf ruleStart fieldStart tabulate items numbers refusalFrom advance numberAt groups
     noSelection wipedOut offers stays isSelected passesOver noneEmpty neighbourhood fieldsWithin widen closing supported supportedBy partner
     allFields largest sweeps sweep pick someEmpty empty cut pad same count only has countBits countIn someBit someIn keepBits keepIn maskOf
-    bit someBelow allBelow
+    bit someBelow allBelow listTriples linked
 computed s = pageOf s
 
 -- sheet D

@@ -1,4 +1,4 @@
--- The first bytes of an input decide it: a sheet has at most 8,055 numbers of at most four bytes, and the number after them is the last
+-- The first bytes of an input decide it: a sheet has at most 8,184 numbers of at most four bytes, and the number after them is the last
 -- that is looked at. So the program reads 32,768 bytes and no more. Assumes nothing.
 use mathlib.Core.Path.{_≡_, refl, sym, ap, _∙_}
 use mathlib.Core.Logic.{⊎-elim}
@@ -6,28 +6,26 @@ use mathlib.Core.Bool.{Bool, true, false, _&&_}
 use mathlib.Core.List.{List, [], _∷_}
 use Prim.Native.Nat.{ℕ, zero, suc, _+_, _-_, _*_, _<_, _≤_}
 use native.Mathlib.Omega.{arith}
-use lib.Dec.{ltb, leb, eqb}
-use lib.ListN.{length, take, drop, getD, set, replicate}
+use lib.Dec.{ltb, eqb}
+use lib.ListN.{length, take, drop}
 use lib.Seq.{take-take, take-all, length-take-le}
-use borrow.Author.Tests.{ltb-true, ltb-false, leb-true, eqb-false}
-use Rattle.masks.specs.Tests.{and-l, and-r}
+use borrow.Author.Tests.{ltb-true, ltb-false}
 use Rattle.masks.specs.Pick.{pick}
-use Rattle.limits.specs.Limits.{mostFields, mostSettings, mostNumbers, offersWords}
+use Rattle.limits.specs.Limits.{mostFields, mostNumbers, offersWords}
 use Rattle.limits.specs.Refusals.{SURPLUS, OUT-OF-RANGE, OUT-OF-ORDER}
 use Rattle.groups.specs.Groups.{groups, numberAt, lastGroup, groups-number, groups-nothing, groups-empty}
 use Rattle.sheet.specs.Sources.{Item, num, cut, ill, refusalFrom, refusal, itemsFrom, ofBytes}
 use Rattle.sheet.specs.Items.{from-num, from-cut, from-ill}
-use Rattle.grammar.specs.Grammar.{advance, start, noCounts, upTo, ranged, ordered, afterField, afterRule, key}
+use Rattle.grammar.specs.Grammar.{advance, start, noCounts}
 use Rattle.accepted.specs.Parts.{fieldsOf}
 use Rattle.accepted.specs.Theorems.{most-sheet-bytes}
 use Rattle.groups.specs.declared.groups.Number.{Number}
 use Rattle.groups.specs.declared.groups.Number.the-variants.{Value, Ended, IllFormed}
-use Rattle.grammar.specs.declared.grammar.Expected.{Expected}
-use Rattle.grammar.specs.declared.grammar.Expected.the-variants.{Fields, Count, Setting, Reach, Rules, First, Second, Kind, Mask, Amount}
 use Rattle.grammar.specs.declared.grammar.State.{State}
 use Rattle.grammar.specs.declared.grammar.State.the-variants.{Wants, Complete, OutOfRange, OutOfOrder}
 use Rattle.session.specs.Steps.{freshSession}
 use Rattle.answering.specs.Answer.{CallResult}
+use Rattle.belaykeel_offers.specs.Remaining.{Fits, some, fits-advance, low-none}
 use Rattle.belaykeel_offers.specs.Opening.{opening, opening-refused, listOf}
 
 -- ---- a number is decided by four bytes
@@ -90,125 +88,7 @@ agree : (b : ℕ) (s : List ℕ) (k at : ℕ) → at + 4 * suc b ≤ k → k ≤
 agree zero s k at h l = agree-at 0 s k at (omega arith) l (λ x next q. more)
 agree (suc b) s k at h l = agree-at (suc b) s k at (omega arith) l (λ x next q. then (agree b s k next (omega arith) l))
 
--- ---- how many numbers may still come
-
--- the numbers of all rules, and with the reach and the number of rules
-abbrev rulesMost : ℕ
-rulesMost = 7452
-
--- the most numbers from the expected one on
-abbrev most : ℕ → Expected → ℕ
-most n Fields = 8055
-most n (Count f) = 25 * (n - f) + 2 + rulesMost
-most n (Setting f rest floor) = suc rest + 25 * (n - (f + 1)) + 2 + rulesMost
-most n Reach = 2 + rulesMost
-most n Rules = 1 + rulesMost
-most n (First rules floor) = 27 * rules + 27
-most n (Second rules floor i) = 27 * rules + 26
-most n (Kind rules i j) = 27 * rules + 25
-most n (Mask rules floor j rest) = 27 * rules + suc rest
-most n (Amount rules floor) = 27 * rules + 1
-
--- a field whose count or setting is expected is one of the n
-abbrev Placed : ℕ → Expected → Type 0
-Placed n Fields = Unit {0}
-Placed n (Count f) = f < n
-Placed n (Setting f rest floor) = f < n
-Placed n Reach = Unit {0}
-Placed n Rules = Unit {0}
-Placed n (First rules floor) = Unit {0}
-Placed n (Second rules floor i) = Unit {0}
-Placed n (Kind rules i j) = Unit {0}
-Placed n (Mask rules floor j rest) = Unit {0}
-Placed n (Amount rules floor) = Unit {0}
-
-abbrev Low : List ℕ → Type 0
-Low ds = (k : ℕ) → getD ds k 0 ≤ mostSettings
-
--- at most b numbers may still come
-abbrev Fits : ℕ → State → List ℕ → Type 0
-Fits b (Wants n e) ds = (most n e ≤ b) × Placed n e × Low ds
-Fits b Complete ds = Unit {0}
-Fits b OutOfRange ds = Unit {0}
-Fits b OutOfOrder ds = Unit {0}
-
-fits-pick : (b : ℕ) (t : Bool) (a z : State) (ds : List ℕ) → (t ≡ true → Fits b a ds) → (t ≡ false → Fits b z ds) → Fits b (pick t a z) ds
-unfolding pick
-fits-pick b true a z ds p q = p refl
-fits-pick b false a z ds p q = q refl
-
-low-set : (ds : List ℕ) (f x : ℕ) → Low ds → x ≤ mostSettings → Low (set ds f x)
-low-set [] f x l h k = l k
-low-set (d ∷ ds) zero x l h zero = h
-low-set (d ∷ ds) zero x l h (suc k) = l (suc k)
-low-set (d ∷ ds) (suc f) x l h zero = l 0
-low-set (d ∷ ds) (suc f) x l h (suc k) = low-set ds f x (λ i. l (suc i)) h k
-
-up-to : (m x : ℕ) → upTo m x ≡ true → (1 ≤ x) × (x ≤ m)
-up-to m x t = (leb-true 1 x (and-l (leb 1 x) (leb x m) t), leb-true x m (and-r (leb 1 x) (leb x m) t))
-
-low-none : (n : ℕ) → Low (replicate n 0)
-low-none zero k = omega arith
-low-none (suc n) zero = omega arith
-low-none (suc n) (suc k) = low-none n k
-
--- ---- a number leaves one less
-
-fits-after-field : (b n f : ℕ) (ds : List ℕ) → 25 * (n - (f + 1)) + 2 + rulesMost ≤ b → Low ds → Fits b (afterField n f) ds
-fits-after-field b n f ds h l =
-    fits-pick b (ltb (f + 1) n) (Wants n (Count (f + 1))) (Wants n Reach) ds (λ t. (h, ltb-true (f + 1) n t, l)) (λ t. (omega arith, tt, l))
-
-fits-after-rule : (b n rules floor : ℕ) (ds : List ℕ) → 27 * rules ≤ b → Low ds → Fits b (afterRule n rules floor) ds
-fits-after-rule b n rules floor ds h l =
-    fits-pick b (eqb rules 0) Complete (Wants n (First (rules - 1) floor)) ds (λ t. tt) (λ t. (omega (arith, eqb-false rules 0 t), tt, l))
-
--- the range and the order
-fits-ranged : (b : ℕ) (t : Bool) (a : State) (ds : List ℕ) → (t ≡ true → Fits b a ds) → Fits b (ranged t a) ds
-fits-ranged b t a ds p = fits-pick b t a OutOfRange ds p (λ e. tt)
-
-fits-ordered : (b : ℕ) (t : Bool) (a : State) (ds : List ℕ) → (t ≡ true → Fits b a ds) → Fits b (ordered t a) ds
-fits-ordered b t a ds p = fits-pick b t a OutOfOrder ds p (λ e. tt)
-
-fits-advance : (b n : ℕ) (e : Expected) (ds : List ℕ) (x : ℕ) → Fits (suc b) (Wants n e) ds
-    → Fits b (advance n e ds x .0) (advance n e ds x .1)
-unfolding advance
-fits-advance b n Fields ds x h = fits-ranged b _ _ ds (λ t. let u = up-to mostFields x t in (omega arith, omega arith, h .2))
-fits-advance b n (Count f) ds x h =
-    fits-ranged b _ _ _ (λ t. let u = up-to mostSettings x t in let p = h .1 in (omega arith, p, low-set ds f x (h .2) (u .1)))
-fits-advance b n (Setting f rest floor) ds x h =
-    fits-ranged b _ _ ds (λ _. fits-ordered b _ _ ds (λ _.
-    fits-pick b (eqb rest 0) (afterField n f) (Wants n (Setting f (rest - 1) (x + 1))) ds
-    (λ t. fits-after-field b n f ds (omega arith) (h .2))
-    (λ t. (omega (arith, eqb-false rest 0 t), h .1, h .2))))
-fits-advance b n Reach ds x h = fits-ranged b _ _ ds (λ _. (omega arith, tt, h .2))
-fits-advance b n Rules ds x h = fits-ranged b _ _ ds (λ t. fits-after-rule b n x 0 ds (omega (arith, leb-true x 276 t)) (h .2))
-fits-advance b n (First rules floor) ds x h = fits-ranged b _ _ ds (λ _. (omega arith, tt, h .2))
-fits-advance b n (Second rules floor i) ds x h = fits-ranged b _ _ ds (λ _. fits-ordered b _ _ ds (λ _. (omega arith, tt, h .2)))
-fits-advance b n (Kind rules i j) ds x h =
-    fits-ranged b _ _ ds (λ _.
-    fits-pick b (eqb x 0) (Wants n (Mask rules (key i j + 1) j (getD ds i 0 - 1))) (Wants n (Amount rules (key i j + 1))) ds
-    (λ _. (omega (arith, h .2 i), tt, h .2))
-    (λ _. (omega arith, tt, h .2)))
-fits-advance b n (Mask rules floor j rest) ds x h =
-    fits-ranged b _ _ ds (λ _.
-    fits-pick b (eqb rest 0) (afterRule n rules floor) (Wants n (Mask rules floor j (rest - 1))) ds
-    (λ _. fits-after-rule b n rules floor ds (omega arith) (h .2))
-    (λ t. (omega (arith, eqb-false rest 0 t), tt, h .2)))
-fits-advance b n (Amount rules floor) ds x h = fits-ranged b _ _ ds (λ _. fits-after-rule b n rules floor ds (omega arith) (h .2))
-
 -- ---- the first bytes decide
-
-some : (n : ℕ) (e : Expected) → 0 < most n e
-some n Fields = omega arith
-some n (Count f) = omega arith
-some n (Setting f rest floor) = omega arith
-some n Reach = omega arith
-some n Rules = omega arith
-some n (First rules floor) = omega arith
-some n (Second rules floor i) = omega arith
-some n (Kind rules i j) = omega arith
-some n (Mask rules floor j rest) = omega arith
-some n (Amount rules floor) = omega arith
 
 -- where no number may come, what follows is refused whatever it is
 past : State → ℕ
@@ -244,7 +124,7 @@ judged-alike b OutOfOrder ds is js h (then {i = num x} a) = refl
 judged-alike b st ds is js h (then {i = cut} a) = refl
 judged-alike b st ds is js h (then {i = ill} a) = refl
 
-pub first-bytes : (s : List ℕ) (k : ℕ) → 32224 ≤ k → refusal (ofBytes (take k s)) ≡ refusal (ofBytes s)
+pub first-bytes : (s : List ℕ) (k : ℕ) → 32740 ≤ k → refusal (ofBytes (take k s)) ≡ refusal (ofBytes s)
 first-bytes s k h = go (ltb k (length s)) refl
   where
     go : (t : Bool) → ltb k (length s) ≡ t → refusal (ofBytes (take k s)) ≡ refusal (ofBytes s)

@@ -1,4 +1,5 @@
 pub mod Opening
+pub mod Remaining
 pub mod Input
 pub mod Page
 pub mod Cases

@@ -84,7 +84,11 @@ fn sheets() {
     sheet(b"80 80 80 80", b"\x80\x80\x80\x80");
     sheet(b"25 fields", b"\x19");
     sheet(b"i = j", b"\x02\x01\x00\x01\x00\x18\x01\x01\x01\x01\x00");
-    sheet(b"a byte more", b"\x01\x01\xAC\x02\x18\x00\x00");
+    sheet(b"a count of 0 triples", b"\x01\x01\xAC\x02\x18\x00\x00");
+    sheet(
+        b"a byte after a triple",
+        b"\x03\x01\x00\x01\x00\x01\x00\x18\x00\x01\x00\x01\x02\x05\x00",
+    );
     sheet(b"a right sheet", b"\x01\x01\xAC\x02\x18\x00");
 }
 

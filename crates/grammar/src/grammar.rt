@@ -5,19 +5,25 @@ ghost use lib.Dec.{ltb, leb};
 ghost use lib.ListN.{getD, set};
 ghost use Rattle.limits.specs.Limits.{largestSetting, lastKind};
 ghost use Rattle.grammar.specs.Grammar.{upTo, ranged, ordered, afterField, afterSetting, afterRule, afterMask, afterKind};
-ghost use Rattle.grammar.specs.Grammar.{key, rising, advance, atEnd};
+ghost use Rattle.grammar.specs.Grammar.{key, rising, advance, endsBefore, atEnd};
+use super::triples::triple_amount;
+use super::triples::triple_first;
+use super::triples::triple_second;
+use super::triples::triple_third;
+use super::triples::triples_if;
 use limits::LARGEST_SETTING;
 use limits::LAST_KIND;
 use limits::MOST_FIELDS;
 use limits::MOST_RULES;
 use limits::MOST_SETTINGS;
+use limits::MOST_TRIPLES;
 use limits::WHOLE_REACH;
 use limits::refusals::ENDS_INSIDE;
 use limits::refusals::OUT_OF_ORDER;
 use limits::refusals::OUT_OF_RANGE;
 
-// What the next number is. `more` and `rules` count what is still to come after it of its field or rule and of the rules; `floor` is the
-// least that may come: one more than the setting before, or than the key of the rule before.
+// What the next number is. `more`, `rules` and `triples` count what is still to come after it of its field or rule, of the rules and of the
+// triples; `floor` is the least that may come: one more than the setting before, or than the key of the rule or triple before.
 pub enum Expected {
     Fields,
     // field
@@ -36,9 +42,19 @@ pub enum Expected {
     Mask(u32, u64, u32, u32),
     // rules, floor
     Amount(u32, u64),
+    // The count of triples. The sheet may also end before it.
+    Triples,
+    // triples, floor
+    TripleFirst(u32, u64),
+    // triples, floor, i
+    TripleSecond(u32, u64, u32),
+    // triples, floor, i, j
+    TripleThird(u32, u64, u32, u32),
+    // triples, floor
+    TripleAmount(u32, u64),
 }
 
-// Where the numbers before have led: a sheet of so many fields expects a number, has its last rule, or a number was refused.
+// Where the numbers before have led: a sheet of so many fields expects a number, has its last triple, or a number was refused.
 pub enum State {
     Wants(u32, Expected),
     Complete,
@@ -94,7 +110,7 @@ fn after_rule(n: u32, rules: u32, floor: u64) -> State
     ensures { λ r. ⌜ r ≡ afterRule n rules floor ⌝ }
 {
     if rules == 0 {
-        return State::Complete;
+        return State::Wants(n, Expected::Triples);
     }
     State::Wants(n, Expected::First(rules - 1, floor))
 }
@@ -242,15 +258,30 @@ pub fn advance(n: u32, expected: Expected, counts: &mut [u32], x: u32) -> State
             mask(n, rules, floor, j, more, d, x)
         }
         Expected::Amount(rules, floor) => rules_if(x <= LARGEST_SETTING, n, rules, floor),
+        Expected::Triples => triples_if(up_to(MOST_TRIPLES, x), n, x, 0),
+        Expected::TripleFirst(triples, floor) => triple_first(n, triples, floor, x),
+        Expected::TripleSecond(triples, floor, i) => triple_second(n, triples, floor, i, x),
+        Expected::TripleThird(triples, floor, i, j) => triple_third(n, triples, floor, i, j, x),
+        Expected::TripleAmount(triples, floor) => triple_amount(n, triples, floor, x),
     }
 }
 
-// The number of a source that ends here: 0 where it has its last rule.
+// The number of a source that ends where a number is expected: 0 before the count of triples.
+fn ends_before(expected: Expected) -> u32
+    ensures { λ r. ⌜ r ≡ endsBefore expected ⌝ }
+{
+    match expected {
+        Expected::Triples => 0,
+        _ => ENDS_INSIDE,
+    }
+}
+
+// The number of a source that ends here: 0 where it has its last rule or its last triple.
 pub fn at_end(state: State) -> u32
     ensures { λ r. ⌜ r ≡ atEnd state ⌝ }
 {
     match state {
-        State::Wants(_, _) => ENDS_INSIDE,
+        State::Wants(_, expected) => ends_before(expected),
         State::Complete => 0,
         State::OutOfRange => OUT_OF_RANGE,
         State::OutOfOrder => OUT_OF_ORDER,

@@ -9,7 +9,7 @@ mostFields = 24
 abbrev pub mostSettings : ℕ
 mostSettings = 24
 
--- a setting, and the number c of a rule, in micrometres, 0 to 1,000,000 (02, request 3)
+-- a setting, and the number c of a rule or triple, in micrometres, 0 to 1,000,000 (02, request 3)
 abbrev pub largestSetting : ℕ
 largestSetting = 1000000
 
@@ -25,6 +25,10 @@ wholeReach = 24
 abbrev pub mostRules : ℕ
 mostRules = 276
 
+-- triple rules, 1 to 32 where a sheet has some (02, request 12)
+abbrev pub mostTriples : ℕ
+mostTriples = 32
+
 -- a rule's kind, 0 to 5
 abbrev pub lastKind : ℕ
 lastKind = 5
@@ -35,10 +39,10 @@ retiredKind = 2
 
 -- the bytes of a sheet, and its numbers
 abbrev pub mostBytes : ℕ
-mostBytes = 29080
+mostBytes = 29273
 
 abbrev pub mostNumbers : ℕ
-mostNumbers = 8055
+mostNumbers = 8184
 
 -- the events of a session
 abbrev pub mostEvents : ℕ
@@ -71,6 +75,16 @@ supportWords = 13824
 
 abbrev pub listPlaces : ℕ
 listPlaces = 576
+
+-- The table of the triple rules (02, request 12): the words before the first of them, those of one, and those of the whole table.
+abbrev pub triplesFront : ℕ
+triplesFront = 49
+
+abbrev pub tripleWords : ℕ
+tripleWords = 579
+
+abbrev pub triplesWords : ℕ
+triplesWords = 18577
 
 -- the bytes of the text that the program prints: 24 lines of at most 2 + 1 + 24 * (1 + 10) + 1
 abbrev pub textBytes : ℕ

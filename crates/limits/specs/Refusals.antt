@@ -13,11 +13,11 @@ ILL-FORMED = 2
 abbrev pub OUT-OF-RANGE : ℕ
 OUT-OF-RANGE = 3
 
--- settings or rules do not rise, or i is not below j
+-- settings, rules or triples do not rise, or the fields of a rule or triple do not
 abbrev pub OUT-OF-ORDER : ℕ
 OUT-OF-ORDER = 4
 
--- bytes or numbers follow the last rule
+-- bytes or numbers follow the sheet's end
 abbrev pub SURPLUS : ℕ
 SURPLUS = 5
 

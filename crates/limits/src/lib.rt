@@ -11,7 +11,7 @@ pub const MOST_SETTINGS: u32 = 24;
 
 pub const SETTINGS: usize = MOST_SETTINGS as usize;
 
-// The largest setting, and the largest number c of a rule, in micrometres.
+// The largest setting, and the largest number c of a rule or triple, in micrometres.
 pub const LARGEST_SETTING: u32 = 1000000;
 
 // How far the distance of a pair may be from c under kind 5, in micrometres.
@@ -22,15 +22,17 @@ pub const WHOLE_REACH: u32 = 24;
 
 pub const MOST_RULES: u32 = 276;
 
+pub const MOST_TRIPLES: u32 = 32;
+
 pub const LAST_KIND: u32 = 5;
 
 // The kind that is read but no longer written.
 pub const RETIRED_KIND: u32 = 2;
 
 // The most bytes and the most numbers of a sheet.
-pub const MOST_BYTES: usize = 29080;
+pub const MOST_BYTES: usize = 29273;
 
-pub const MOST_NUMBERS: usize = 8055;
+pub const MOST_NUMBERS: usize = 8184;
 
 // The most events of a session, and the length of the array that holds them.
 pub const MOST_EVENTS: u32 = 64;
@@ -56,6 +58,13 @@ pub const COUNTER_WORDS: usize = 2880;
 pub const SUPPORT_WORDS: usize = 13824;
 
 pub const LIST_PLACES: usize = 576;
+
+// The table of the triple rules: the words before the first of them, those of one, and those of the whole table.
+pub const TRIPLES_FRONT: usize = 49;
+
+pub const TRIPLE_WORDS: usize = 579;
+
+pub const TRIPLES_WORDS: usize = 18577;
 
 // The most bytes of the text that the program prints: 24 lines of at most 2 + 1 + 24 * (1 + 10) + 1.
 pub const TEXT_BYTES: usize = 6432;

@@ -16,6 +16,7 @@ use Rattle.limits.specs.Refusals.{ENDS-INSIDE, ILL-FORMED, TOO-SHORT}
 use Rattle.grammar.specs.Grammar.{advance, atEnd}
 use Rattle.grammar.specs.declared.grammar.Expected.{Expected}
 use Rattle.grammar.specs.declared.grammar.Expected.the-variants.{Fields, Count, Setting, Reach, Rules, First, Second, Kind, Mask, Amount}
+use Rattle.grammar.specs.declared.grammar.Expected.the-variants.{Triples, TripleFirst, TripleSecond, TripleThird, TripleAmount}
 use Rattle.grammar.specs.declared.grammar.State.{State}
 use Rattle.grammar.specs.declared.grammar.State.the-variants.{Wants}
 use Rattle.sheet.specs.Sources.{Item, num, cut, ill, meets, refusalFrom, refusal, numbers, ofNumbers, bytesOf, answered, checked}
@@ -151,3 +152,8 @@ advance-length n (Second rules floor i) ds x = refl
 advance-length n (Kind rules i j) ds x = refl
 advance-length n (Mask rules floor j more) ds x = refl
 advance-length n (Amount rules floor) ds x = refl
+advance-length n Triples ds x = refl
+advance-length n (TripleFirst triples floor) ds x = refl
+advance-length n (TripleSecond triples floor i) ds x = refl
+advance-length n (TripleThird triples floor i j) ds x = refl
+advance-length n (TripleAmount triples floor) ds x = refl

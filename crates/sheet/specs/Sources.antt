@@ -15,6 +15,7 @@ use Rattle.limits.specs.Refusals.{ENDS-INSIDE, ILL-FORMED, OUT-OF-RANGE, OUT-OF
 use Rattle.grammar.specs.Grammar.{advance, start, noCounts, atEnd}
 use Rattle.grammar.specs.declared.grammar.Expected.{Expected}
 use Rattle.grammar.specs.declared.grammar.Expected.the-variants.{Fields, Count, Setting, Reach, Rules, First, Second, Kind, Mask, Amount}
+use Rattle.grammar.specs.declared.grammar.Expected.the-variants.{Triples, TripleFirst, TripleSecond, TripleThird, TripleAmount}
 use Rattle.grammar.specs.declared.grammar.State.{State}
 use Rattle.grammar.specs.declared.grammar.State.the-variants.{Wants, Complete, OutOfRange, OutOfOrder}
 use Rattle.sheet.specs.declared.answer.Answer.{Answer}
@@ -31,7 +32,7 @@ numberRefusal (Value x next) = 0
 numberRefusal Ended = ENDS-INSIDE
 numberRefusal IllFormed = ILL-FORMED
 
--- An item that follows: judged where a number is expected, SURPLUS after the last rule, and a refusal stays.
+-- An item that follows: judged where a number is expected, SURPLUS after the last triple, and a refusal stays.
 abbrev pub meets : State → (ℕ → Expected → ℕ) → ℕ
 meets (Wants n e) judged = judged n e
 meets Complete judged = SURPLUS
@@ -102,6 +103,11 @@ isRetired (Second rules floor i) x = false
 isRetired (Kind rules i j) x = eqb x retiredKind
 isRetired (Mask rules floor j more) x = false
 isRetired (Amount rules floor) x = false
+isRetired Triples x = false
+isRetired (TripleFirst triples floor) x = false
+isRetired (TripleSecond triples floor i) x = false
+isRetired (TripleThird triples floor i j) x = false
+isRetired (TripleAmount triples floor) x = false
 
 -- Number after number from a state on: whether the retired kind is met before a fault of the grammar.
 unfoldable pub retiredFrom : State → List ℕ → List ℕ → Bool

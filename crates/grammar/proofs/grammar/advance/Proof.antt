@@ -97,6 +97,43 @@ returns-10 c =
     let q = c .before .before .expected7 .given .1 in
     (rw (c .rules-if2 .ensures) (leads (a .n) (now (a .counts)) (a .x) q), counted (a .n) (now (a .counts)) (a .x) q)
 
+returns-11 : tie.Need-returns-11
+unfolding advance
+returns-11 c =
+    let a = c .before .before .before .before .before .args in
+    let q = c .before .before .enum-told4 .given .1 in (
+      rw (c .triples-if .ensures, c .before .up-to4 .ensures) (leads (a .n) (now (a .counts)) (a .x) q),
+      counted (a .n) (now (a .counts)) (a .x) q,
+    )
+
+returns-12 : tie.Need-returns-12
+unfolding advance
+returns-12 c =
+    let a = c .before .before .before .before .before .args in
+    let q = c .before .before .expected8 .given .1 in
+    (rw (c .triple-first .ensures) (leads (a .n) (now (a .counts)) (a .x) q), counted (a .n) (now (a .counts)) (a .x) q)
+
+returns-13 : tie.Need-returns-13
+unfolding advance
+returns-13 c =
+    let a = c .before .before .before .before .before .args in
+    let q = c .before .before .expected9 .given .1 in
+    (rw (c .triple-second .ensures) (leads (a .n) (now (a .counts)) (a .x) q), counted (a .n) (now (a .counts)) (a .x) q)
+
+returns-14 : tie.Need-returns-14
+unfolding advance
+returns-14 c =
+    let a = c .before .before .before .before .before .args in
+    let q = c .before .before .expected10 .given .1 in
+    (rw (c .triple-third .ensures) (leads (a .n) (now (a .counts)) (a .x) q), counted (a .n) (now (a .counts)) (a .x) q)
+
+returns-15 : tie.Need-returns-15
+unfolding advance
+returns-15 c =
+    let a = c .before .before .before .before .before .args in
+    let q = c .before .before .expected11 .given .1 in
+    (rw (c .triple-amount .ensures) (leads (a .n) (now (a .counts)) (a .x) q), counted (a .n) (now (a .counts)) (a .x) q)
+
 pub advance-spec : {M : Type 1} → statement M
 advance-spec =
     tie.close
@@ -128,6 +165,17 @@ advance-spec =
     (λ c κs. search needs)
     (λ c. search needs)
     (λ c κs. search needs)
+    (λ c. search needs)
+    (λ c κs. search needs)
+    (λ c κs. search needs)
+    (λ c. search needs)
+    (λ c κs. search needs)
+    (λ c. search needs)
+    (λ c κs. search needs)
+    (λ c. search needs)
+    (λ c κs. search needs)
+    (λ c. search needs)
+    (λ c κs. search needs)
     returns
     (λ c. search needs)
     returns-2
@@ -140,4 +188,9 @@ advance-spec =
     returns-8
     (λ c. search needs)
     returns-9
-    returns-10)
+    returns-10
+    returns-11
+    returns-12
+    returns-13
+    returns-14
+    returns-15)

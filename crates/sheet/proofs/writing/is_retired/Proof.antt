@@ -6,6 +6,7 @@ use types.Run.{OneOf, miss}
 use denote.Enum.Declared.{tagOf}
 use Rattle.grammar.specs.declared.grammar.Expected.{Expected}
 use Rattle.grammar.specs.declared.grammar.Expected.the-variants.{Fields, Count, Setting, Reach, Rules, First, Second, Kind, Mask, Amount}
+use Rattle.grammar.specs.declared.grammar.Expected.the-variants.{Triples, TripleFirst, TripleSecond, TripleThird, TripleAmount}
 use Rattle.grammar.proofs.grammar.Expected.{the-type}
 use Rattle.sheet.specs.Sources.{isRetired}
 use borrow.Author.Needs.{needs}
@@ -14,7 +15,7 @@ use Rattle.sheet.proofs.writing.is_retired.Tie as tie
 
 -- every variant but the kind, by its place among them
 abbrev others : List ℕ
-others = 0 ∷ 1 ∷ 2 ∷ 3 ∷ 4 ∷ 5 ∷ 6 ∷ 8 ∷ 9 ∷ []
+others = 0 ∷ 1 ∷ 2 ∷ 3 ∷ 4 ∷ 5 ∷ 6 ∷ 8 ∷ 9 ∷ 10 ∷ 11 ∷ 12 ∷ 13 ∷ 14 ∷ []
 
 other : (e : Expected) (x : ℕ) → OneOf others (tagOf the-type e) → false ≡ isRetired e x
 other Fields x h = refl
@@ -27,6 +28,11 @@ other (Second rules floor i) x h = refl
 other (Kind rules i j) x h = absurd (miss others 7 tt h)
 other (Mask rules floor j more) x h = refl
 other (Amount rules floor) x h = refl
+other Triples x h = refl
+other (TripleFirst triples floor) x h = refl
+other (TripleSecond triples floor i) x h = refl
+other (TripleThird triples floor i j) x h = refl
+other (TripleAmount triples floor) x h = refl
 
 returns : tie.Need-returns
 returns c = sym (ap (λ (e : Expected). isRetired e (c .before .before .args .x)) (c .enum-told .given .1))

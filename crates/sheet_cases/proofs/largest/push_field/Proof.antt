@@ -4,25 +4,24 @@ use native.Mathlib.Omega.{arith}
 use lib.ListN.{length}
 use Rattle.limits.specs.Limits.{mostSettings}
 use borrow.Author.Needs.{needs}
-use Rattle.sheet_cases.proofs.push_rule.Statement.{statement}
-use Rattle.sheet_cases.proofs.push_rule.Tie as tie
+use Rattle.sheet_cases.proofs.largest.push_field.Statement.{statement}
+use Rattle.sheet_cases.proofs.largest.push_field.Tie as tie
 
 abbrev Inv-loop : tie.InvT-loop
-Inv-loop numbers₀ start i j k₀ a₀ numbers k a = length numbers ≡ length numbers₀
+Inv-loop numbers₀ start k₀ v₀ numbers k v = length numbers ≡ length numbers₀
 
 abbrev μ-loop : tie.MeasureT-loop
-μ-loop numbers₀ start i j k₀ a₀ numbers k a = mostSettings - a
+μ-loop numbers₀ start k₀ v₀ numbers k v = mostSettings - v
 
-pub push-rule-spec : {M : Type 1} → statement M
-push-rule-spec =
+pub push-field-spec : {M : Type 1} → statement M
+push-field-spec =
     tie.close
     (tie.spec
     Inv-loop
     μ-loop
     (λ c κs. search needs)
-    (λ c κs. search needs)
-    (λ c κs. search needs)
     (λ c. refl)
+    (λ c. omega arith)
     (λ c κs. search needs)
     (λ c. omega arith)
     (λ c. omega arith)

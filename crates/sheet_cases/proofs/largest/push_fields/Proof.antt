@@ -2,26 +2,25 @@ use mathlib.Core.Path.{_≡_, refl}
 use Prim.Native.Nat.{_-_}
 use native.Mathlib.Omega.{arith}
 use lib.ListN.{length}
-use Rattle.limits.specs.Limits.{mostSettings}
+use Rattle.limits.specs.Limits.{mostFields}
 use borrow.Author.Needs.{needs}
-use Rattle.sheet_cases.proofs.push_field.Statement.{statement}
-use Rattle.sheet_cases.proofs.push_field.Tie as tie
+use Rattle.sheet_cases.proofs.largest.push_fields.Statement.{statement}
+use Rattle.sheet_cases.proofs.largest.push_fields.Tie as tie
 
 abbrev Inv-loop : tie.InvT-loop
-Inv-loop numbers₀ start k₀ v₀ numbers k v = length numbers ≡ length numbers₀
+Inv-loop numbers₀ start k₀ f₀ numbers k f = length numbers ≡ length numbers₀
 
 abbrev μ-loop : tie.MeasureT-loop
-μ-loop numbers₀ start k₀ v₀ numbers k v = mostSettings - v
+μ-loop numbers₀ start k₀ f₀ numbers k f = mostFields - f
 
-pub push-field-spec : {M : Type 1} → statement M
-push-field-spec =
+pub push-fields-spec : {M : Type 1} → statement M
+push-fields-spec =
     tie.close
     (tie.spec
     Inv-loop
     μ-loop
     (λ c κs. search needs)
     (λ c. refl)
-    (λ c. omega arith)
     (λ c κs. search needs)
     (λ c. omega arith)
     (λ c. omega arith)

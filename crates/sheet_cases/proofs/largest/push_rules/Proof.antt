@@ -4,8 +4,8 @@ use native.Mathlib.Omega.{arith}
 use lib.ListN.{length}
 use Rattle.limits.specs.Limits.{mostFields}
 use borrow.Author.Needs.{needs}
-use Rattle.sheet_cases.proofs.push_rules.Statement.{statement}
-use Rattle.sheet_cases.proofs.push_rules.Tie as tie
+use Rattle.sheet_cases.proofs.largest.push_rules.Statement.{statement}
+use Rattle.sheet_cases.proofs.largest.push_rules.Tie as tie
 
 abbrev Inv-loop : tie.InvT-loop
 Inv-loop numbers₀ start k₀ pair₀ numbers k pair = length numbers ≡ length numbers₀
