@@ -30,7 +30,7 @@ use Rattle.accepted.specs.Outline.{outlineOf, outline-few, full-at}
 use Rattle.network.specs.declared.build.Network.{Network}
 use Rattle.network.specs.Tables.{forwardOf, turnedOf}
 use Rattle.network.specs.SheetProblem.{sheetProblem}
-use Rattle.network.specs.Network.{problemIn, NetworkOf}
+use Rattle.network.specs.Network.{problemIn, NetworkOf, TriplesOf}
 use Rattle.closing.specs.Asks.{Masks}
 use Rattle.engines.specs.Engine.{IsOrder, Engine, Offered}
 use Rattle.engines.specs.EngineAsks.{RunAsks}
@@ -183,69 +183,84 @@ module _ (xs : List ℕ) (a : Accepted xs) (l : Ledger) where
 -- ---- settling
 
 -- The outline and the network are those of an accepted sheet with the numbers xs.
-pub record Prepared (xs : List ℕ) (o : Outline) (net : Network) (rows : List ℕ) : Type 0 where
+pub record Built (xs : List ℕ) (o : Outline) (net : Network) (rows : List ℕ) : Type 0 where
   pub accepted : Accepted xs
   pub outline : o ≡ outlineOf xs
   pub network : NetworkOf xs net (forwardOf rows) (turnedOf rows)
 
--- what settling asks: the outline and the network of some sheet, an order of its fields, a mask that open would take, and room enough
-pub record SettleAsks (o : Outline) (net : Network) (order : List ℕ) (selected : ℕ) (offers rows memory : List ℕ) : Type 0 where
-  pub sheet : List ℕ
-  pub prepared : Prepared sheet o net rows
+-- and so is the table of the triple rules
+pub record Prepared (xs : List ℕ) (o : Outline) (net : Network) (rows triples : List ℕ) : Type 0 where
+  pub built : Built xs o net rows
+  pub drafts : TriplesOf xs triples
+
+-- what a call lends: an order of the sheet's fields, a mask that open would take, and room enough
+pub record Enough (o : Outline) (order : List ℕ) (selected : ℕ) (offers rows memory : List ℕ) : Type 0 where
   pub ordered : isOrder (o .fields) order ≡ true
   pub selects : noSelection o selected ≡ false
   pub offers-room : offersWords ≤ length offers
   pub rows-room : rowsWords ≤ length rows
   pub memory-room : memoryWords ≤ length memory
 
+-- what settling asks: the outline, the network and the table of some sheet
+pub record SettleAsks (o : Outline) (net : Network) (order : List ℕ) (selected : ℕ) (offers rows memory triples : List ℕ) : Type 0 where
+  pub sheet : List ℕ
+  pub prepared : Prepared sheet o net rows triples
+  pub enough : Enough o order selected offers rows memory
+
+-- the same where the table is still to be made, from the sheet's numbers at the front of the memory
+pub record SheetAsks (o : Outline) (net : Network) (count : ℕ) (order : List ℕ) (selected : ℕ) (offers rows memory : List ℕ) : Type 0 where
+  pub built : Built (take count memory) o net rows
+  pub ends : count ≤ length memory
+  pub enough : Enough o order selected offers rows memory
+
 -- Whether the ledger's offers have an empty field; if not, they stand in front of the list.
 pub record Settled (xs : List ℕ) (l : Ledger) (before : List ℕ) (w : Bool) (after : List ℕ) : Type 0 where
   pub wipes : w ≡ wiped xs l
   pub offers : after ≡ pick w before (written (offersOf xs l) before)
 
--- the same on whatever sheet has that outline and that network
-abbrev pub SettledOn : Outline → Network → (rows : List ℕ) → Ledger → (before : List ℕ) → Bool → (after : List ℕ) → Type 0
-SettledOn o net rows l before w after = (xs : List ℕ) → Prepared xs o net rows → Settled xs l before w after
+-- the same on whatever sheet has that outline, that network and that table
+abbrev pub SettledOn : Outline → Network → (rows triples : List ℕ) → Ledger → (before : List ℕ) → Bool → (after : List ℕ) → Type 0
+SettledOn o net rows triples l before w after = (xs : List ℕ) → Prepared xs o net rows triples → Settled xs l before w after
 
-module _ (o : Outline) (net : Network) (order : List ℕ) (selected : ℕ) (offers rows memory : List ℕ)
-    (s : SettleAsks o net order selected offers rows memory) where
+module _ (o : Outline) (net : Network) (order : List ℕ) (selected : ℕ) (offers rows memory triples : List ℕ)
+    (s : SettleAsks o net order selected offers rows memory triples) where
   pub fields-few : o .fields ≤ mostFields
-  fields-few = let p = s .prepared in rw (p .outline) (outline-few (s .sheet) (p .accepted))
+  fields-few = let p = s .prepared .built in rw (p .outline) (outline-few (s .sheet) (p .accepted))
 
   pub settle-asks : (m : List ℕ) (ds : List Decision) → m ≡ startMasks o ds
-      → RunAsks net (forwardOf rows) (turnedOf rows) order selected m
+      → RunAsks net (forwardOf rows) (turnedOf rows) triples order selected m
   settle-asks m ds e =
-      let p = s .prepared in
+      let p = s .prepared .built in
       let xs = s .sheet in
       let a = p .accepted in
       let n : o .fields ≡ fieldsOf xs = rw (p .outline) (unfold outlineOf in refl) in
       let S = pad (mostFields - fieldsOf xs) (startSet (outlineOf xs) ds) in
       let q : m ≡ S = e ∙ rw (p .outline) (start-is xs a ds) in
-      rw q (run-asks xs net (forwardOf rows) (turnedOf rows) (p .network) order selected S
-      (is-order xs a ds order (rw n at (s .ordered))) (rw n at (selection-low o selected (s .selects)))
+      rw q (run-asks xs net (forwardOf rows) (turnedOf rows) triples (p .network) (s .prepared .drafts) order selected S
+      (is-order xs a ds order (rw n at (s .enough .ordered))) (rw n at (selection-low o selected (s .enough .selects)))
       (start-masks xs a ds) (padded-on xs a ds))
 
-module _ (xs : List ℕ) (o : Outline) (net : Network) (rows : List ℕ) (p : Prepared xs o net rows)
+module _ (xs : List ℕ) (o : Outline) (net : Network) (rows triples : List ℕ) (p : Prepared xs o net rows triples)
     (l : Ledger) (before m R : List ℕ) (w : Bool)
     (e : m ≡ startMasks o (l .decisions))
-    (r : Engine (problemIn net (forwardOf rows) (turnedOf rows)) (net .hood) (l .selected) m w R) where
+    (r : Engine (problemIn net (forwardOf rows) (turnedOf rows) triples) (net .hood) (l .selected) m w R) where
   start : m ≡ startMasks (outlineOf xs) (l .decisions)
-  start = rw (p .outline) at e
+  start = rw (p .built .outline) at e
 
   ran : Offered (sheetProblem xs) (neighbourhood (sheetProblem xs) (reachOf xs)) (l .selected) m w R
-  ran = answers xs net (forwardOf rows) (turnedOf rows) (p .network) (l .selected) m w R r
+  ran = answers xs net (forwardOf rows) (turnedOf rows) triples (p .built .network) (p .drafts) (l .selected) m w R r
 
   pub settled-wiped : w ≡ true → Settled xs l before true before
-  settled-wiped y = record { wipes = sym y ∙ found-wiped xs (p .accepted) l m R start w ran; offers = sym (pick-true _ _ _ refl) }
+  settled-wiped y = record { wipes = sym y ∙ found-wiped xs (p .built .accepted) l m R start w ran; offers = sym (pick-true _ _ _ refl) }
 
   pub settled-offers : w ≡ false → (after : List ℕ) → after ≡ take (o .fields) R ++ drop (o .fields) before
       → Settled xs l before false after
   settled-offers n after q = record {
-    wipes = sym n ∙ found-wiped xs (p .accepted) l m R start w ran;
-    offers = q ∙ rw k (ap₂ (λ (x : List ℕ) (j : ℕ). x ++ drop j before) (found-offers xs (p .accepted) l m R start w ran n)
-        (sym (offers-sized xs (p .accepted) l)))
+    wipes = sym n ∙ found-wiped xs (p .built .accepted) l m R start w ran;
+    offers = q ∙ rw k (ap₂ (λ (x : List ℕ) (j : ℕ). x ++ drop j before) (found-offers xs (p .built .accepted) l m R start w ran n)
+        (sym (offers-sized xs (p .built .accepted) l)))
         ∙ sym (pick-false _ _ _ refl);
   }
     where
       k : o .fields ≡ fieldsOf xs
-      k = rw (p .outline) (unfold outlineOf in refl)
+      k = rw (p .built .outline) (unfold outlineOf in refl)

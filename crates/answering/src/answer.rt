@@ -2,8 +2,8 @@
 ghost use mathlib.Core.Path.{_≡_};
 ghost use Rattle.answering.specs.Answer.{spaces, Answers};
 ghost use Rattle.answering.specs.Answering.{shortBy};
+use super::drafts::settle_sheet;
 use super::intake::take_in;
-use super::settle::settle;
 use judging::judge::judge;
 use ledger::Call;
 use limits::MEMORY_WORDS;
@@ -62,7 +62,17 @@ pub fn answer(
     let length = taken.length;
     let net = build(&memory[..length], rows);
     let next = step(session, call);
-    if settle(next, outline, net, engine, order, offers, rows, memory) {
+    if settle_sheet(
+        next,
+        outline,
+        net,
+        length,
+        engine,
+        order,
+        offers,
+        rows,
+        memory,
+    ) {
         return Outcome {
             number: WIPED_OUT,
             session,

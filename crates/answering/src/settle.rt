@@ -1,4 +1,5 @@
-// The offers under what a session holds, found and written. The network is built already, so a caller may settle many times.
+// The offers under what a session holds, found and written. The network is built and the table of the triple rules made already, so a
+// caller may settle many times.
 ghost use mathlib.Core.Path.{_≡_};
 ghost use mathlib.Core.List.{_++_};
 ghost use Prim.Native.Nat.{_≤_};
@@ -36,9 +37,11 @@ pub fn settle(
     offers: &mut [u32],
     tables: &[u32],
     memory: &mut [u32],
+    triples: &[u32],
 ) -> bool
-    requires { ⌜ SettleAsks outline net (now order) (session .selected) (now offers) (now tables) (now memory) ⌝ }
-    ensures { λ r. ⌜ SettledOn outline net (now (tables .entry)) (view session) (now (offers .entry)) r (now (offers .exit)) ⌝ }
+    requires { ⌜ SettleAsks outline net (now order) (session .selected) (now offers) (now tables) (now memory) (now triples) ⌝ }
+    ensures { λ r. ⌜ SettledOn outline net (now (tables .entry)) (now (triples .entry)) (view session) (now (offers .entry)) r
+        (now (offers .exit)) ⌝ }
 {
     let mut m = start(outline, session.decisions);
     let forward = rows::forward(tables);
@@ -52,6 +55,7 @@ pub fn settle(
         net,
         forward,
         turned,
+        triples,
     ) {
         return true;
     }

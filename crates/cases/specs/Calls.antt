@@ -80,3 +80,22 @@ abbrev pub five : ℕ → List ℕ
 five reach =
     5 ∷ 2 ∷ 1 ∷ 2 ∷ 2 ∷ 1 ∷ 2 ∷ 2 ∷ 1 ∷ 2 ∷ 2 ∷ 1 ∷ 2 ∷ 2 ∷ 1 ∷ 2 ∷ reach
     ∷ 5 ∷ 0 ∷ 1 ∷ 3 ∷ 1 ∷ 0 ∷ 4 ∷ 3 ∷ 1 ∷ 1 ∷ 2 ∷ 3 ∷ 1 ∷ 2 ∷ 3 ∷ 3 ∷ 1 ∷ 3 ∷ 4 ∷ 3 ∷ 1 ∷ []
+
+-- three passes {18, 20, 22}, {15, 16}, {10, 12, 13} at a reach, with no rule and one triple rule with c, which has one group
+abbrev pub evenDrafts : ℕ → ℕ → List ℕ
+evenDrafts reach c = 3 ∷ 3 ∷ 18 ∷ 20 ∷ 22 ∷ 2 ∷ 15 ∷ 16 ∷ 3 ∷ 10 ∷ 12 ∷ 13 ∷ reach ∷ 0 ∷ 1 ∷ 0 ∷ 1 ∷ 2 ∷ c ∷ []
+
+-- four fields at a reach, of which all but the third are {0, 1, 2}: field 0 is at least fields 1 and 3, and fields 1, 2 and 3 are in line
+abbrev pub lineOf : ℕ → List ℕ → List ℕ
+lineOf reach third =
+    4 ∷ 3 ∷ 0 ∷ 1 ∷ 2 ∷ 3 ∷ 0 ∷ 1 ∷ 2 ∷ (third ++ 3 ∷ 0 ∷ 1 ∷ 2 ∷ reach ∷ 2 ∷ 0 ∷ 1 ∷ 1 ∷ 0 ∷ 0 ∷ 3 ∷ 1 ∷ 0 ∷ 1 ∷ 1 ∷ 2 ∷ 3 ∷ 0 ∷ [])
+
+-- fields {1, 2} at a reach, equal where a triple rule with c 0 has them: the first three of four, of which the second and third differ
+abbrev pub equalThree : ℕ → List ℕ
+equalThree reach = 4 ∷ 2 ∷ 1 ∷ 2 ∷ 2 ∷ 1 ∷ 2 ∷ 2 ∷ 1 ∷ 2 ∷ 2 ∷ 1 ∷ 2 ∷ reach ∷ 1 ∷ 1 ∷ 2 ∷ 3 ∷ 1 ∷ 1 ∷ 0 ∷ 1 ∷ 2 ∷ 0 ∷ []
+
+-- all five by two triple rules, of which the last two differ
+abbrev pub equalFive : ℕ → List ℕ
+equalFive reach =
+    5 ∷ 2 ∷ 1 ∷ 2 ∷ 2 ∷ 1 ∷ 2 ∷ 2 ∷ 1 ∷ 2 ∷ 2 ∷ 1 ∷ 2 ∷ 2 ∷ 1 ∷ 2 ∷ reach ∷ 1 ∷ 3 ∷ 4 ∷ 3 ∷ 1
+    ∷ 2 ∷ 0 ∷ 1 ∷ 2 ∷ 0 ∷ 2 ∷ 3 ∷ 4 ∷ 0 ∷ []

@@ -2,7 +2,7 @@
 -- computes. Assumes nothing.
 use mathlib.Core.Path.{_≡_, refl}
 use mathlib.Core.Bool.{Bool, true, false, not, _&&_}
-use mathlib.Core.List.{List, [], _∷_}
+use mathlib.Core.List.{List, [], _∷_, _++_}
 use Prim.Native.Nat.{ℕ}
 use Rattle.masks.specs.Tests.{allBelow, someBelow}
 use Rattle.masks.specs.Bits.{bit}
@@ -12,8 +12,9 @@ use Rattle.masks.specs.Settings.{cut, empty, someEmpty}
 use Rattle.masks.specs.Restrict.{restrict}
 use Rattle.masks.specs.Pick.{pick}
 use Rattle.consistency.specs.Largest.{sweep, sweeps, largest}
-use Rattle.consistency.specs.Problem.{Problem, allFields}
-use Rattle.consistency.specs.Closing.{partner, supportedBy, supported, closing}
+use Rattle.consistency.specs.Problem.{hasField, listTriples, Problem, allFields, tripleHas, linked}
+use Rattle.consistency.specs.Triples.{takes, thirdFits, secondFits, together}
+use Rattle.consistency.specs.Closing.{partner, supportedBy, supportedByTriple, supported, closing}
 use Rattle.consistency.specs.Neighbourhood.{widen, fieldsWithin, neighbourhood}
 use Rattle.consistency.specs.Passing.{noneEmpty, passesOver}
 use Rattle.consistency.specs.Offers.{isSelected, stays, offers, wipedOut}
@@ -25,7 +26,7 @@ use Rattle.accepted.specs.Lists.{tabulate}
 use Rattle.accepted.specs.Parts.{fieldStart, ruleStart}
 use Rattle.accepted.specs.Outline.{outlineOf}
 use Rattle.accepted.specs.Cases.{D}
-use Rattle.network.specs.SheetProblem.{runs, pairs, sheetProblem}
+use Rattle.network.specs.SheetProblem.{runs, pairs, sheetTriple, sheetProblem}
 use Rattle.ledger.specs.declared.Call.{Call}
 use Rattle.ledger.specs.declared.Call.the-variants.{Open, Show, Back, CoilOn}
 use Rattle.ledger.specs.Occurrences.{occurrences}
@@ -34,7 +35,7 @@ use Rattle.ledger.specs.Ledger.{otherChosen, starts, startSet, offersOf, wiped,
 use Rattle.ledger.specs.Ledger.{noSelection, malformed, noEngine, isOrder, first, judged, causes, number, after}
 use Rattle.cases.specs.Problems.{allDifferent, ring}
 use Rattle.cases.specs.Calls.{given, every, these, answers, afterAll, single, edges, encoders, three, threeAndOne}
-use Rattle.cases.specs.Calls.{five, twoOverTwo, threeAndCopy}
+use Rattle.cases.specs.Calls.{five, twoOverTwo, threeAndCopy, evenDrafts, lineOf, equalThree, equalFive}
 
 pub data Case : Type 0 where
   -- a problem, a reach, a mask of selected fields, a set; its closing over every field, its offers, and whether it is wiped out
@@ -55,11 +56,12 @@ agree false b = not b
 
 -- It opens all that it computes with, so a theorem says `unfolding allHold` and no more.
 unfoldable pub holds : Case → Bool
-unfolding agree restrict wipedOut offers stays isSelected passesOver noneEmpty neighbourhood fieldsWithin widen allFields closing supported
-    supportedBy partner largest sweeps sweep someEmpty empty cut same count only countBits countIn someBit someIn keepBits keepIn maskOf
-    bit has pad someBelow allBelow answers afterAll tabulate occurrences number after first causes judged malformed noEngine isOrder
-    spaceShort noSelection reversible allOnSheet onSheet inForce sameDecision without changeBy backed step otherChosen starts startSet
-    offersOf wiped outlineOf refusalFrom numbers items numberAt groups pick advance fieldStart ruleStart sheetProblem runs pairs
+unfolding agree restrict wipedOut offers stays isSelected passesOver noneEmpty neighbourhood fieldsWithin widen linked tripleHas hasField
+    allFields closing supported supportedBy supportedByTriple together secondFits thirdFits takes listTriples sheetTriple partner largest
+    sweeps sweep someEmpty empty cut same count only countBits countIn someBit someIn keepBits keepIn maskOf bit has pad someBelow
+    allBelow answers afterAll tabulate occurrences number after first causes judged malformed noEngine isOrder spaceShort noSelection
+    reversible allOnSheet onSheet inForce sameDecision without changeBy backed step otherChosen starts startSet offersOf wiped outlineOf
+    refusalFrom numbers items numberAt groups pick advance fieldStart ruleStart sheetProblem runs pairs
 holds (consistency P k selected S closed offered wiped) =
     let hood = neighbourhood P k in
     same (closing P (allFields P) S) closed && same (offers P hood selected S) offered && agree (wipedOut P hood selected S) wiped
@@ -151,6 +153,26 @@ table =
     (0 ∷ 0 ∷ 0 ∷ 0 ∷ 0 ∷ 18 ∷ 0 ∷ []) (4 ∷ 6 ∷ 3 ∷ 3 ∷ [])
     ∷ shown twoOverTwo (these 1) (Open 2 ∷ []) (0 ∷ 0 ∷ []) (7 ∷ 4 ∷ 3 ∷ 3 ∷ [])
     ∷ calls twoOverTwo (these 0) (Show ∷ Open 16 ∷ Open 31 ∷ Show ∷ []) (18 ∷ 15 ∷ 18 ∷ 18 ∷ 15 ∷ [])
+    -- 02, request 12: triple rules. Three passes in line: closing alone drops the last setting of the last pass, and a choice narrows the
+    -- other two; c 1 lets it stay
+    ∷ closes (evenDrafts 1 0) (7 ∷ 3 ∷ 7 ∷ []) (7 ∷ 3 ∷ 3 ∷ [])
+    ∷ shown (evenDrafts 1 0) every (decides CHOOSE 1 1 ∷ []) (0 ∷ 0 ∷ []) (6 ∷ 2 ∷ 3 ∷ [])
+    ∷ calls (evenDrafts 24 0) every (decides CHOOSE 1 1 ∷ decides CHOOSE 0 0 ∷ []) (0 ∷ 0 ∷ 14 ∷ [])
+    ∷ shown (evenDrafts 24 1) every (decides CHOOSE 2 2 ∷ []) (0 ∷ 0 ∷ []) (3 ∷ 3 ∷ 4 ∷ [])
+    -- at reach 1 field 2 is outside the neighbourhood of field 0. The triple rule counts there: where field 2 has no setting 0, field 0
+    -- loses its own. Where field 2 has it, struck, it still supports; a larger reach drops it
+    ∷ shown (lineOf 1 (2 ∷ 1 ∷ 2 ∷ [])) every [] (0 ∷ []) (6 ∷ 7 ∷ 3 ∷ 7 ∷ [])
+    ∷ shown (lineOf 1 (3 ∷ 0 ∷ 1 ∷ 2 ∷ [])) every (decides STRIKE 2 0 ∷ []) (0 ∷ 0 ∷ []) (7 ∷ 7 ∷ 6 ∷ 7 ∷ [])
+    ∷ shown (lineOf 2 (3 ∷ 0 ∷ 1 ∷ 2 ∷ [])) every (decides STRIKE 2 0 ∷ []) (0 ∷ 0 ∷ []) (6 ∷ 7 ∷ 6 ∷ 7 ∷ [])
+    ∷ shown (lineOf 24 (3 ∷ 0 ∷ 1 ∷ 2 ∷ [])) every (decides STRIKE 2 0 ∷ []) (0 ∷ 0 ∷ []) (6 ∷ 7 ∷ 6 ∷ 7 ∷ [])
+    -- neighbours by a triple rule alone, and by a walk over two of them
+    ∷ calls (equalThree 1) (these 1) [] (14 ∷ [])
+    ∷ shown (equalThree 1) (these 8) [] (0 ∷ []) (3 ∷ 3 ∷ 3 ∷ 3 ∷ [])
+    ∷ shown (equalFive 1) (these 1) [] (0 ∷ []) (3 ∷ 3 ∷ 3 ∷ 3 ∷ 3 ∷ [])
+    ∷ calls (equalFive 2) (these 1) [] (14 ∷ [])
+    -- a count of 0 after the rules is 3, and anything after the last triple rule is 5
+    ∷ calls (D ++ 0 ∷ []) every [] (3 ∷ [])
+    ∷ calls (evenDrafts 24 0 ++ 0 ∷ []) every [] (5 ∷ [])
     ∷ []
 
 -- THE THEOREM: every case of the table holds.

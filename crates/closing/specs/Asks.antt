@@ -11,19 +11,22 @@ use borrow.Author.Tests.{eq-eqb, ne-eqb}
 use Rattle.limits.specs.Limits.{mostFields, mostSettings, counterWords, supportWords, listPlaces}
 use Rattle.masks.specs.Tests.{never, not-so, bool-cases, eq-cases, iff-eq}
 use Rattle.masks.specs.Bits.{bit, bit-bound, Within}
-use Rattle.masks.specs.Words.{bit-xor, clear, clear-within, clear-same}
+use Rattle.masks.specs.Words.{bit-xor, bit-one, clear, clear-within, clear-same}
 use Rattle.masks.specs.Sets.{has, has-ext, _⊆_, ⊆-trans}
 use Rattle.masks.specs.Settings.{cut, cut-⊆, cut-by, lose, lose-⊆, lose-by, lose-set, length-lose, empty, empty-at, empty-by, empty-not}
-use Rattle.removal_list.specs.Count.{Small}
+use Rattle.removal_list.specs.Count.{Small, count-most}
 use Rattle.removal_list.specs.Moved.{Moved, without, has-without, length-without}
-use Rattle.consistency.specs.Problem.{Problem, allFields, in-allFields, allFields-bound}
+use Rattle.consistency.specs.Problem.{hasField, Problem, tripleAt, allFields, in-allFields, allFields-bound}
 use Rattle.consistency.specs.Closing.{closing, closing-is}
+use Rattle.consistency.specs.Revising.{rulesOnly, closed-under-other}
 use Rattle.consistency.specs.Passing.{NoneEmpty, noneEmpty, noneEmpty-at}
-use Rattle.network.specs.Tables.{problemOf, Wired}
+use Rattle.network.specs.Tables.{ruleProblem, Wired}
+use Rattle.network.specs.TripleTable.{problemOf, no-triples, TripleTable, triples-in}
 use Rattle.pruning.specs.Shrunk.{or-within, one-within, small-⊆, Shrunk, shrunk-then, shrunk-set}
 use Rattle.pruning.specs.Supports.{Counts, Supports, supports-less, closed-positive}
 use Rattle.pruning.specs.Prune.{PruneAsks}
 use Rattle.pruning.specs.Close.{Closes}
+use Rattle.revising.specs.Narrow.{ClosedElse}
 use Rattle.closing.specs.Frame.{Live, Tested, Removed}
 
 -- a set: a mask for each field, with a bit for each setting
@@ -41,10 +44,11 @@ pub record Blank (support counter copy list : List ℕ) : Type 0 where
   pub no-count : (q : ℕ) → getD counter q 0 ≡ 0
 
 -- the start of an engine: no field is empty
-pub record CloseAsks (n : ℕ) (joined forward turned : List ℕ) (S support counter copy list : List ℕ) : Type 0 where
+pub record CloseAsks (n : ℕ) (joined forward turned triples : List ℕ) (S support counter copy list : List ℕ) : Type 0 where
   pub wired : Wired n joined forward turned
+  pub table : TripleTable n triples
   pub masks : Masks S
-  pub full : NoneEmpty (problemOf n joined forward turned) (allFields (problemOf n joined forward turned)) S
+  pub full : NoneEmpty (problemOf n joined forward turned triples) (allFields (problemOf n joined forward turned triples)) S
   pub blank : Blank support counter copy list
 
 -- Between two tests: the support sets serve the set, the counts are exact, and so is their copy.
@@ -54,24 +58,33 @@ pub record Counted (P : Problem) (support counter copy list S : List ℕ) : Type
   pub copied : copy ≡ counter
   pub places : length list ≡ listPlaces
 
+-- support is under the rules over two fields alone
+pub supports-rules : (P : Problem) (support S : List ℕ) → Supports P support S → Supports (rulesOnly P) support S
+supports-rules P support S s = record { sized = s .sized; sound = s .sound; complete = s .complete }
+
+pub rules-supports : (P : Problem) (support S : List ℕ) → Supports (rulesOnly P) support S → Supports P support S
+rules-supports P support S s = record { sized = s .sized; sound = s .sound; complete = s .complete }
+
 -- D became R, and the list from its front on has each setting that D lost a single time, and nothing else
 abbrev pub Lists : List ℕ → List ℕ → List ℕ → List ℕ → Type 0
 Lists D L R K = (u : ℕ) × Moved D L 0 R K u
 
 -- a set that an engine works on
-pub record LiveAsks (n : ℕ) (joined forward turned : List ℕ) (S : List ℕ) : Type 0 where
+pub record LiveAsks (n : ℕ) (joined forward turned triples : List ℕ) (S : List ℕ) : Type 0 where
   pub wired : Wired n joined forward turned
+  pub table : TripleTable n triples
   pub masks : Masks S
-  pub live : Live (problemOf n joined forward turned) S
+  pub live : Live (problemOf n joined forward turned triples) S
 
-module _ (n : ℕ) (joined forward turned : List ℕ) (S : List ℕ) (a : LiveAsks n joined forward turned S) where
+module _ (n : ℕ) (joined forward turned triples : List ℕ) (S : List ℕ) (a : LiveAsks n joined forward turned triples S) where
   abbrev P : Problem
-  P = problemOf n joined forward turned
+  P = problemOf n joined forward turned triples
 
   -- after a shrinking that keeps the set alive
-  pub asks-shrunk : {R : List ℕ} {changed : ℕ} → Shrunk S R changed → Live P R → LiveAsks n joined forward turned R
+  pub asks-shrunk : {R : List ℕ} {changed : ℕ} → Shrunk S R changed → Live P R → LiveAsks n joined forward turned triples R
   asks-shrunk {R} s l = record {
     wired = a .wired;
+    table = a .table;
     masks = record { long = s .sized ∙ a .masks .long; small = small-⊆ S R (s .inside) (a .masks .small) };
     live = l;
   }
@@ -119,20 +132,23 @@ module _ (n : ℕ) (joined forward turned : List ℕ) (S : List ℕ) (a : LiveAs
     module _ (support counter copy list : List ℕ) (ct : Counted P support counter copy list S) (W : ℕ) (fields : Within W (allFields P))
         (in-W : bit W f ≡ true) (full : NoneEmpty P W R) where
       -- what pruneAC asks then, for the counts or their copy
-      pub prune-asks : (C : List ℕ) → C ≡ counter → (K : List ℕ) (t : ℕ) → Moved S list 0 R K t → PruneAsks P W support R K t C
-      unfolding problemOf
+      pub prune-asks : (C : List ℕ) → C ≡ counter → (K : List ℕ) (t : ℕ) → Moved S list 0 R K t
+          → PruneAsks (ruleProblem n joined forward turned) W support 0 R K t C
+      unfolding problemOf ruleProblem
       prune-asks C e K t m = record {
+        alone = no-triples n joined forward turned;
         listed = record {
           whole = S;
           before = list;
           long = a .masks .long;
           small = a .masks .small;
           places = ct .places;
+          room = let c = count-most S (a .masks .small) in let l = a .masks .long in omega arith;
           moved = m;
           counts = rw e (ct .counts);
           fields = λ j b x y. ⊎-elim (λ q. rw q in-W) (λ q. absurd (never (same j b q ∙ x) y)) (eq-cases j f);
         };
-        supported = supports-less P support S R inside (ct .supported);
+        supported = supports-less (ruleProblem n joined forward turned) support S R inside (supports-rules P support S (ct .supported));
         positive = λ i j v x y r h. rw e
             (closed-positive P support counter S (ct .supported) (allFields P) (ct .counts) (a .masks .small) (a .live .shut)
             i j v (x .0, fields i (x .1)) (y .0, fields j (y .1)) r (inside i v h));
@@ -140,6 +156,12 @@ module _ (n : ℕ) (joined forward turned : List ℕ) (S : List ℕ) (a : LiveAs
         on = λ g b. allFields-bound P g (fields g b);
         few = a .wired .few;
       }
+
+    -- the set is still closed under each triple rule that f is not in
+    pub closed-else : (W : ℕ) → ClosedElse P W (2 ^ f) R
+    closed-else W t l out = closed-under-other P (triples-in n joined forward turned triples (a .table)) S (a .live .shut)
+        W R f inside same t l
+        (not-so (hasField (tripleAt P t) f) (λ h. never (bit-one f f ∙ eq-eqb f f refl) (out f h)))
 
   -- the set cut to a setting, and the set without it, differ from it in one field
   pub cut-same : (f v g u : ℕ) → (g ≡ f → ⊥) → has (cut S f v) g u ≡ has S g u

@@ -52,13 +52,14 @@ module _ (P : Problem) where
         → (j : ℕ) × (b : ℕ) × (b < mostSettings) × (getD L q 0 ≡ numberOf j b) × (has D0 j b ≡ true) × (has D j b ≡ false)
     initialized-nothing-else = entered-was-lost D0 L0 0 D L t (i .moved)
 
-  -- pruneAC, of which `whole` is the set of all that was there or waited: the list has each setting of it that is gone a single time, those
+  -- pruneAC, of which `whole` is the set of all that was there or waited: the list has, from s on, each setting of it that is gone a
+  -- single time, those
   -- that closing removed from t1 on, and nothing else
-  module _ (W : ℕ) (S D1 L1 : List ℕ) (t1 : ℕ) (C1 : List ℕ) (a : PruneAsks P W S D1 L1 t1 C1) (wiped : Bool) (changed spent : ℕ)
+  module _ (W : ℕ) (S D1 L1 : List ℕ) (t1 : ℕ) (C1 : List ℕ) (s : ℕ) (a : PruneAsks P W S s D1 L1 t1 C1) (wiped : Bool) (changed spent : ℕ)
       (D L : List ℕ) (t : ℕ) (C : List ℕ) (p : Pruned P W S D1 L1 t1 C1 wiped changed spent D L t C) where
-    pub pruned-enters-once : (j b : ℕ) → has (a .listed .whole) j b ≡ true → has D j b ≡ false → EntersOnce L 0 t j b
+    pub pruned-enters-once : (j b : ℕ) → has (a .listed .whole) j b ≡ true → has D j b ≡ false → EntersOnce L s t j b
     pruned-enters-once =
-        lost-enters-once (a .listed .whole) (a .listed .before) 0 D L t (moved-then (a .listed .moved) (p .moved))
+        lost-enters-once (a .listed .whole) (a .listed .before) s D L t (moved-then (a .listed .moved) (p .moved))
 
     pub pruned-nothing-else : (q : ℕ) → t1 ≤ q → q < t
         → (j : ℕ) × (b : ℕ) × (b < mostSettings) × (getD L q 0 ≡ numberOf j b) × (has D1 j b ≡ true) × (has D j b ≡ false)

@@ -1,3 +1,4 @@
+pub mod Fields
 -- Closing by AC-4: at the start of an engine, in the test of a setting, and after its removal.
 pub mod Recover
 pub mod Frame

@@ -3,7 +3,7 @@
 ghost use mathlib.Core.Path.{_≡_};
 ghost use mathlib.Core.Bool.{false};
 ghost use Rattle.consistency.specs.Problem.{allFields};
-ghost use Rattle.network.specs.Tables.{problemOf};
+ghost use Rattle.network.specs.TripleTable.{problemOf};
 ghost use Rattle.pruning.specs.Close.{Closes};
 ghost use Rattle.closing.specs.Asks.{CloseAsks, Counted, Lists};
 use super::recover::recover;
@@ -13,7 +13,7 @@ use limits::FIELDS;
 use limits::LIST_PLACES;
 use limits::SUPPORT_WORDS;
 use network::hoods::all_fields;
-use pruning::prune_ac::prune_ac;
+use revising::narrow::narrow;
 
 // What became of a set: whether a field has nothing left, and else which fields lost settings.
 pub struct Narrowed {
@@ -32,12 +32,15 @@ pub fn close<'a>(
     joined: &[u32; FIELDS],
     forward: &'a [u32],
     turned: &'a [u32],
+    triples: &[u32],
 ) -> Narrowed
-    requires { ⌜ CloseAsks n (now joined) (now forward) (now turned) (now m) (now support) (now counter) (now copy) (now list) ⌝ }
-    ensures { λ r. ⌜ Closes (problemOf n (now (joined .entry)) (now (forward .entry)) (now (turned .entry)))
-        (allFields (problemOf n (now (joined .entry)) (now (forward .entry)) (now (turned .entry))))
+    requires { ⌜ CloseAsks n (now joined) (now forward) (now turned) (now triples) (now m) (now support) (now counter) (now copy)
+        (now list) ⌝ }
+    ensures { λ r. ⌜ Closes (problemOf n (now (joined .entry)) (now (forward .entry)) (now (turned .entry)) (now (triples .entry)))
+        (allFields (problemOf n (now (joined .entry)) (now (forward .entry)) (now (turned .entry)) (now (triples .entry))))
         (now (m .entry)) (r .wiped) (r .changed) (now (m .exit))
-        × (r .wiped ≡ false → Counted (problemOf n (now (joined .entry)) (now (forward .entry)) (now (turned .entry)))
+        × (r .wiped ≡ false → Counted (problemOf n (now (joined .entry)) (now (forward .entry)) (now (turned .entry))
+        (now (triples .entry)))
         (now (support .exit)) (now (counter .exit)) (now (copy .exit)) (now (list .exit)) (now (m .exit)))
         × Lists (now (m .entry)) (now (list .entry)) (now (m .exit)) (now (list .exit)) ⌝ }
 {
@@ -48,10 +51,12 @@ pub fn close<'a>(
             changed: r.changed,
         };
     }
-    let q = prune_ac(
+    let all = all_fields(n);
+    let q = narrow(
         m,
         n,
-        all_fields(n),
+        all,
+        all,
         counter,
         support,
         list,
@@ -59,6 +64,7 @@ pub fn close<'a>(
         joined,
         forward,
         turned,
+        triples,
     );
     recover(copy, counter, all_fields(FIELDS));
     Narrowed {

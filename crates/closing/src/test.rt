@@ -4,7 +4,7 @@ ghost use mathlib.Core.Bool.{true, false};
 ghost use Rattle.masks.specs.Bits.{bit, Within};
 ghost use Rattle.masks.specs.Sets.{has};
 ghost use Rattle.consistency.specs.Problem.{allFields};
-ghost use Rattle.network.specs.Tables.{problemOf};
+ghost use Rattle.network.specs.TripleTable.{problemOf};
 ghost use Rattle.closing.specs.Frame.{Tested, Removed};
 ghost use Rattle.closing.specs.Asks.{LiveAsks, Counted, Lists};
 use super::close::Narrowed;
@@ -16,8 +16,8 @@ use limits::SUPPORT_WORDS;
 use masks::Domains;
 use masks::one_bit;
 use network::hoods::all_fields;
-use pruning::prune_ac::prune_ac;
 use removal_list::move_out;
+use revising::narrow::narrow;
 
 // Tests position v of field f over the fields of `within`, on the copy of the counts and starting from the settings of f that are cut off.
 // t is the set; where the setting passes, t becomes what the test left.
@@ -34,13 +34,16 @@ pub fn test<'a>(
     joined: &[u32; FIELDS],
     forward: &'a [u32],
     turned: &'a [u32],
+    triples: &[u32],
 ) -> bool
-    requires { ⌜ LiveAsks n (now joined) (now forward) (now turned) (now t) × (has (now t) f v ≡ true)
-        × Within within (allFields (problemOf n (now joined) (now forward) (now turned))) × (bit within f ≡ true) ⌝ }
-    requires { ⌜ Counted (problemOf n (now joined) (now forward) (now turned)) (now support) (now counter) (now copy) (now list) (now t) ⌝ }
-    ensures { λ r. ⌜ Tested (problemOf n (now (joined .entry)) (now (forward .entry)) (now (turned .entry))) within
+    requires { ⌜ LiveAsks n (now joined) (now forward) (now turned) (now triples) (now t) × (has (now t) f v ≡ true)
+        × Within within (allFields (problemOf n (now joined) (now forward) (now turned) (now triples))) × (bit within f ≡ true) ⌝ }
+    requires { ⌜ Counted (problemOf n (now joined) (now forward) (now turned) (now triples)) (now support) (now counter) (now copy)
+        (now list) (now t) ⌝ }
+    ensures { λ r. ⌜ Tested (problemOf n (now (joined .entry)) (now (forward .entry)) (now (turned .entry)) (now (triples .entry))) within
         (now (t .entry)) f v r (now (t .exit))
-        × Counted (problemOf n (now (joined .entry)) (now (forward .entry)) (now (turned .entry))) (now (support .entry))
+        × Counted (problemOf n (now (joined .entry)) (now (forward .entry)) (now (turned .entry)) (now (triples .entry)))
+        (now (support .entry))
         (now (counter .entry)) (now (copy .exit)) (now (list .exit)) (now (t .entry))
         × Lists (now (t .entry)) (now (list .entry)) (now (t .exit)) (now (list .exit)) ⌝ }
 {
@@ -49,10 +52,11 @@ pub fn test<'a>(
     let cut = set.cut(f, v);
     let off = t[f] ^ cut.masks[f];
     let tail = move_out(t, f, off, list, 0);
-    let p = prune_ac(
+    let p = narrow(
         t,
         n,
         within,
+        one_bit(f),
         copy,
         support,
         list,
@@ -60,6 +64,7 @@ pub fn test<'a>(
         joined,
         forward,
         turned,
+        triples,
     );
     recover(copy, counter, p.spent);
     !p.wiped
@@ -78,12 +83,15 @@ pub fn remove<'a>(
     joined: &[u32; FIELDS],
     forward: &'a [u32],
     turned: &'a [u32],
+    triples: &[u32],
 ) -> Narrowed
-    requires { ⌜ LiveAsks n (now joined) (now forward) (now turned) (now m) × (has (now m) f v ≡ true) ⌝ }
-    requires { ⌜ Counted (problemOf n (now joined) (now forward) (now turned)) (now support) (now counter) (now copy) (now list) (now m) ⌝ }
-    ensures { λ r. ⌜ Removed (problemOf n (now (joined .entry)) (now (forward .entry)) (now (turned .entry)))
+    requires { ⌜ LiveAsks n (now joined) (now forward) (now turned) (now triples) (now m) × (has (now m) f v ≡ true) ⌝ }
+    requires { ⌜ Counted (problemOf n (now joined) (now forward) (now turned) (now triples)) (now support) (now counter) (now copy)
+        (now list) (now m) ⌝ }
+    ensures { λ r. ⌜ Removed (problemOf n (now (joined .entry)) (now (forward .entry)) (now (turned .entry)) (now (triples .entry)))
         (now (m .entry)) f v (r .wiped) (r .changed) (now (m .exit))
-        × (r .wiped ≡ false → Counted (problemOf n (now (joined .entry)) (now (forward .entry)) (now (turned .entry)))
+        × (r .wiped ≡ false → Counted (problemOf n (now (joined .entry)) (now (forward .entry)) (now (turned .entry))
+        (now (triples .entry)))
         (now (support .entry)) (now (counter .exit)) (now (copy .exit)) (now (list .exit)) (now (m .exit)))
         × Lists (now (m .entry)) (now (list .entry)) (now (m .exit)) (now (list .exit)) ⌝ }
 {
@@ -98,10 +106,12 @@ pub fn remove<'a>(
     }
     let off = m[f] ^ left.masks[f];
     let tail = move_out(m, f, off, list, 0);
-    let r = prune_ac(
+    let own = one_bit(f);
+    let r = narrow(
         m,
         n,
         all_fields(n),
+        own,
         counter,
         support,
         list,
@@ -109,10 +119,11 @@ pub fn remove<'a>(
         joined,
         forward,
         turned,
+        triples,
     );
     recover(copy, counter, r.spent);
     Narrowed {
         wiped: r.wiped,
-        changed: one_bit(f) | r.changed,
+        changed: own | r.changed,
     }
 }

@@ -4,16 +4,19 @@ use mathlib.Core.Path.{_≡_}
 use mathlib.Core.Logic.{_↔_}
 use mathlib.Core.Bool.{true}
 use mathlib.Core.List.{List}
-use Prim.Native.Nat.{ℕ, _≤_}
+use Prim.Native.Nat.{ℕ, _≤_, _<_}
+use lib.ListN.{length}
 use Rattle.masks.specs.Bits.{Within}
 use Rattle.masks.specs.Sets.{has}
 use Rattle.masks.specs.Settings.{cut-⊆}
 use Rattle.consistency.specs.Largest.{IsLargest, IsLargest-iff, Test, Monotone, AllPass, largest, largest-is}
-use Rattle.consistency.specs.Problem.{Problem, OnFields, allFields, in-allFields}
+use Rattle.consistency.specs.Problem.{hasField, Problem, tripleAt, TriplesIn, field-below, OnFields, allFields, in-allFields}
+use Rattle.consistency.specs.Problem.{linked-rule, linked-triple}
+use Rattle.consistency.specs.Triples.{Free, together-free}
 use Rattle.consistency.specs.Closing.{Closed}
-use Rattle.consistency.specs.Neighbourhood.{neighbourhood, neighbourhood-self, neighbourhood-joined}
+use Rattle.consistency.specs.Neighbourhood.{neighbourhood, neighbourhood-self, neighbourhood-linked}
 use Rattle.consistency.specs.Passing.{PassesOver, passesOver, passesOver-at, passesOver-by, passesOver-mono}
-use Rattle.consistency.specs.Passing.{witness-at, passing-left}
+use Rattle.consistency.specs.Passing.{left, Witness, witness-at, passing-left}
 use Rattle.consistency.specs.Offers.{offers, offers-unique}
 
 module _ (P : Problem) (k : ℕ) where
@@ -43,15 +46,32 @@ module _ (P : Problem) (k : ℕ) where
   unfolding offersAllTested
   all-tested-is S = IsLargest-iff (AllPass passes) EachPasses all-passes S _ (largest-is passes passes-mono S)
 
-  module _ (least : 1 ≤ k) where
+  module _ (least : 1 ≤ k) (drafts : TriplesIn P) where
     -- a set in which every setting passes is closed
     passing-closed : (S : List ℕ) → EachPasses S → Closed P (allFields P) S
-    passing-closed S p f v e i g j q =
-        let W = neighbourhood P k f in
-        let w = witness-at P W S f v (p f v e) in
+    passing-closed S p f v e i =
         let self = neighbourhood-self P k f (i .0) in
-        let c = w .shut f v (passing-left P W S f v self (p f v e)) self g (neighbourhood-joined P k f g least (i .0) (j .0) q) q in
-        (c .0, cut-⊆ S f v g (c .0) (w .inside g (c .0) (c .1)), c .2)
+        let s = w .shut f v (passing-left P W S f v self (p f v e)) self in
+        record {
+          rules = λ g j q.
+              let c = s .rules g (neighbourhood-linked P k f g least (i .0) (j .0) (linked-rule P f g q)) q in
+              (c .0, cut-⊆ S f v g (c .0) (w .inside g (c .0) (c .1)), c .2);
+          triples = λ t l q. together-free P W (allFields P) (left P W S f v) S (tripleAt P t) f v (still t l q) (s .triples t l q);
+        }
+      where
+        W : ℕ
+        W = neighbourhood P k f
+
+        w : Witness P W S f v (left P W S f v)
+        w = witness-at P W S f v (p f v e)
+
+        -- the other fields of a triple rule of f are in W
+        still : (t : ℕ) → t < length (P .triples) → hasField (tripleAt P t) f ≡ true → (g : ℕ) → hasField (tripleAt P t) g ≡ true → (u : ℕ)
+            → Free P W (left P W S f v) g u → Free P (allFields P) S g u
+        still t l q g x u y =
+            let j = neighbourhood-linked P k f g least (i .0) (field-below P (tripleAt P t) (drafts t l) g x)
+            (linked-triple P f g t l q x) in
+            record { listed = y .listed; there = λ _. cut-⊆ S f v g u (w .inside g u (y .there (j .1))) }
 
     -- THE THEOREM: with every field selected the offers are those of 01.
     pub offers-all-selected : (selected : ℕ) → Within (allFields P) selected → (S : List ℕ) → OnFields P S

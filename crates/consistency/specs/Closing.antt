@@ -3,7 +3,7 @@ use mathlib.Core.Path.{_≡_}
 use mathlib.Core.Bool.{Bool, true, _&&_}
 use mathlib.Core.Logic.{_↔_}
 use mathlib.Core.List.{List}
-use Prim.Native.Nat.{ℕ}
+use Prim.Native.Nat.{ℕ, _<_}
 use lib.Dec.{ltb}
 use lib.ListN.{length, getD}
 use borrow.Author.Tests.{ltb-true, lt-ltb}
@@ -13,7 +13,8 @@ use Rattle.masks.specs.Masks.{someBit, someBit-at, someBit-by}
 use Rattle.masks.specs.Sets.{has, _⊆_}
 use Rattle.consistency.specs.Largest.{IsLargest, IsLargest-mono, IsLargest-stricter, IsLargest-iff, IsLargest-unique}
 use Rattle.consistency.specs.Largest.{IsLargest-self, IsLargest-between, Test, Monotone, AllPass, largest, largest-is}
-use Rattle.consistency.specs.Problem.{Problem, In}
+use Rattle.consistency.specs.Problem.{hasField, Problem, tripleAt, In}
+use Rattle.consistency.specs.Triples.{free-mono, free-wider, Together, together-free, together, together-at, together-by}
 
 module _ (P : Problem) where
   -- ---- support: an allowed partner in field g, still in S, of position v of field f
@@ -34,38 +35,64 @@ module _ (P : Problem) where
 
   -- ---- closed over the fields of the mask W
 
-  -- Position v of field f has, under each rule of f that joins two fields of W, an allowed partner still in S.
-  abbrev pub Supported : ℕ → List ℕ → ℕ → ℕ → Type 0
-  Supported W S f v = In P W f → (g : ℕ) → In P W g → P .joined f g ≡ true → Partner S f v g
+  -- Position v of field f, which is in W, has an allowed partner still in S under each rule that joins f to a field of W, and support under
+  -- each triple rule of f, whichever of its other fields are in W.
+  pub record Supported (W : ℕ) (S : List ℕ) (f v : ℕ) : Type 0 where
+    pub rules : (g : ℕ) → In P W g → P .joined f g ≡ true → Partner S f v g
+    pub triples : (t : ℕ) → t < length (P .triples) → hasField (tripleAt P t) f ≡ true → Together P W S (tripleAt P t) f v
 
-  -- Closed (01): every setting of every field is supported. With every field in W this is over every rule.
+  -- Closed (01, 02): every setting of every field of W is supported. With every field in W this is over every rule and every triple rule.
   abbrev pub Closed : ℕ → List ℕ → Type 0
-  Closed W S = (f v : ℕ) → has S f v ≡ true → Supported W S f v
+  Closed W S = (f v : ℕ) → has S f v ≡ true → In P W f → Supported W S f v
 
-  -- the same as tests: under the rule with g, and under each rule
+  -- the same as tests: under the rule with g, under triple rule t, and under each
   unfoldable pub supportedBy : ℕ → List ℕ → ℕ → ℕ → ℕ → Bool
   supportedBy W S f v g = bit W g && P .joined f g ⇒ partner S f v g
 
+  unfoldable pub supportedByTriple : ℕ → List ℕ → ℕ → ℕ → ℕ → Bool
+  supportedByTriple W S f v t =
+      let own = together P W S (tripleAt P t) f v in
+      hasField (tripleAt P t) f ⇒ own
+
   unfoldable pub supported : ℕ → Test
-  supported W S f v = ltb f (P .fields) && bit W f ⇒ allBelow (P .fields) (supportedBy W S f v)
+  supported W S f v =
+      let under = allBelow (length (P .triples)) (supportedByTriple W S f v) in
+      let both = allBelow (P .fields) (supportedBy W S f v) && under in
+      ltb f (P .fields) && bit W f ⇒ both
 
-  pub supported-at : (W : ℕ) (S : List ℕ) (f v : ℕ) → supported W S f v ≡ true → Supported W S f v
-  unfolding supported supportedBy
-  supported-at W S f v e i g j k =
-      let each = ⇒-at (ltb f (P .fields) && bit W f) _ e (and-by _ _ (lt-ltb f (P .fields) (i .0)) (i .1)) in
-      partner-at S f v g (⇒-at (bit W g && P .joined f g) _ (allBelow-at (P .fields) (supportedBy W S f v) each g (j .0))
-      (and-by _ _ (j .1) k))
+  pub supported-at : (W : ℕ) (S : List ℕ) (f v : ℕ) → supported W S f v ≡ true → In P W f → Supported W S f v
+  unfolding supported supportedBy supportedByTriple
+  supported-at W S f v e i =
+      let both = ⇒-at (ltb f (P .fields) && bit W f) _ e (and-by _ _ (lt-ltb f (P .fields) (i .0)) (i .1)) in
+      record {
+        rules = λ g j k. partner-at S f v g
+            (⇒-at (bit W g && P .joined f g) _ (allBelow-at (P .fields) (supportedBy W S f v) (and-l _ _ both) g (j .0))
+            (and-by _ _ (j .1) k));
+        triples = λ t l k. together-at P W S (tripleAt P t) f v
+            (⇒-at (hasField (tripleAt P t) f) _ (allBelow-at (length (P .triples)) (supportedByTriple W S f v)
+            (and-r (allBelow (P .fields) (supportedBy W S f v)) _ both) t l) k);
+      }
 
-  pub supported-by : (W : ℕ) (S : List ℕ) (f v : ℕ) → Supported W S f v → supported W S f v ≡ true
-  unfolding supported supportedBy
+  pub supported-by : (W : ℕ) (S : List ℕ) (f v : ℕ) → (In P W f → Supported W S f v) → supported W S f v ≡ true
+  unfolding supported supportedBy supportedByTriple
   supported-by W S f v s =
-      ⇒-by (ltb f (P .fields) && bit W f) _ (λ i. allBelow-by (P .fields) (supportedBy W S f v)
-      (λ g h. ⇒-by (bit W g && P .joined f g) _ (λ j. partner-by S f v g
-      (s (ltb-true f (P .fields) (and-l _ _ i), and-r (ltb f (P .fields)) _ i) g (h, and-l _ _ j) (and-r (bit W g) _ j)))))
+      ⇒-by (ltb f (P .fields) && bit W f) _ (λ i.
+      let x = s (ltb-true f (P .fields) (and-l _ _ i), and-r (ltb f (P .fields)) _ i) in
+      and-by _ _
+      (allBelow-by (P .fields) (supportedBy W S f v) (λ g h. ⇒-by (bit W g && P .joined f g) _ (λ j.
+      partner-by S f v g (x .rules g (h, and-l _ _ j) (and-r (bit W g) _ j)))))
+      (allBelow-by (length (P .triples)) (supportedByTriple W S f v) (λ t l. ⇒-by (hasField (tripleAt P t) f) _ (λ j.
+      together-by P W S (tripleAt P t) f v (x .triples t l j)))))
+
+  -- what is supported in a set is supported in a larger one
+  pub support-mono : (W : ℕ) (S R : List ℕ) → S ⊆ R → (f v : ℕ) → Supported W S f v → Supported W R f v
+  support-mono W S R h f v s = record {
+    rules = λ g j k. let x = s .rules g j k in (x .0, h g (x .0) (x .1), x .2);
+    triples = λ t l k. together-free P W W S R (tripleAt P t) f v (λ g _ u. free-mono P W S R h g u) (s .triples t l k);
+  }
 
   pub supported-mono : (W : ℕ) → Monotone (supported W)
-  supported-mono W S R h f v e =
-      supported-by W R f v (λ i g j k. let s = supported-at W S f v e i g j k in (s .0, h g (s .0) (s .1), s .2))
+  supported-mono W S R h f v e = supported-by W R f v (λ i. support-mono W S R h f v (supported-at W S f v e i))
 
   pub all-supported : (W : ℕ) (S : List ℕ) → AllPass (supported W) S ↔ Closed W S
   all-supported W S = (λ p f v e. supported-at W S f v (p f v e), λ c f v e. supported-by W S f v (c f v e))
@@ -94,7 +121,12 @@ module _ (P : Problem) where
 
   -- over more fields it asks more
   pub closed-wider : (W Z : ℕ) → Within W Z → (S : List ℕ) → Closed Z S → Closed W S
-  closed-wider W Z h S c f v e i g j = c f v e (i .0, h f (i .1)) g (j .0, h g (j .1))
+  closed-wider W Z h S c f v e i =
+      let s = c f v e (i .0, h f (i .1)) in
+      record {
+        rules = λ g j. s .rules g (j .0, h g (j .1));
+        triples = λ t l k. together-free P Z W S S (tripleAt P t) f v (λ g _ u. free-wider P W Z h S g u) (s .triples t l k);
+      }
 
   pub closing-wider : (W Z : ℕ) → Within W Z → (S : List ℕ) → closing Z S ⊆ closing W S
   closing-wider W Z h S =

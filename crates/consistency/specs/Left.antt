@@ -9,7 +9,8 @@ use Rattle.masks.specs.Tests.{never, not-so}
 use Rattle.masks.specs.Sets.{_⊆_, ⊆-antisymm}
 use Rattle.masks.specs.Settings.{cut, cut-at, cut-by, cut-mono, length-cut, empty, empty-at, empty-not}
 use Rattle.masks.specs.Restrict.{restrict, length-restrict, restrict-⊆, restrict-at, restrict-by}
-use Rattle.consistency.specs.Problem.{Problem}
+use Rattle.consistency.specs.Problem.{Problem, tripleAt}
+use Rattle.consistency.specs.Triples.{together-free}
 use Rattle.consistency.specs.Closing.{closing-is, closing-mono}
 use Rattle.consistency.specs.Neighbourhood.{neighbourhood}
 use Rattle.consistency.specs.Passing.{left, passesOver, passesOver-at, passesOver-by, Witness, witness-at, witness-by}
@@ -31,7 +32,11 @@ module _ (P : Problem) where
         let part = restrict-⊆ W L in
         record {
           inside = λ g u e. cut-by T f v g u (there g u e) (λ q. cut-at S f v u (w .inside f u (part f u (rw q at e))));
-          shut = λ g u e i h j k. let s = w .shut g u (part g u e) i h j k in (s .0, restrict-by W L h (s .0) (s .1) (j .1), s .2);
+          shut = λ g u e i. let s = w .shut g u (part g u e) i in record {
+            rules = λ h j k. let x = s .rules h j k in (x .0, restrict-by W L h (x .0) (x .1) (j .1), x .2);
+            triples = λ t l k. together-free P W W L (leftIn W S f v) (tripleAt P t) g u
+                (λ h _ y x. record { listed = x .listed; there = λ b. restrict-by W L h y (x .there b) b }) (s .triples t l k);
+          };
           full = λ g i. let s = empty-not L g (w .full g i) in
               not-so (empty (leftIn W S f v) g)
               (λ z. never (restrict-by W L g (s .0) (s .1) (i .1)) (empty-at (leftIn W S f v) g (s .0) z));

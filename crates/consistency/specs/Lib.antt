@@ -1,6 +1,7 @@
 pub mod Largest
 pub mod Runs
 pub mod Problem
+pub mod Triples
 pub mod Closing
 pub mod Neighbourhood
 pub mod Passing
@@ -9,4 +10,5 @@ pub mod Offers
 pub mod AllSelected
 pub mod Order
 pub mod SetUps
+pub mod Revising
 pub mod Padding

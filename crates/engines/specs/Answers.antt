@@ -13,9 +13,9 @@ use Rattle.consistency.specs.Offers.{wipedOut}
 use Rattle.consistency.specs.Order.{offers-same-hoods}
 use Rattle.accepted.specs.Parts.{fieldsOf, reachOf}
 use Rattle.network.specs.declared.build.Network.{Network}
-use Rattle.network.specs.Tables.{problemOf}
+use Rattle.network.specs.TripleTable.{problemOf}
 use Rattle.network.specs.SheetProblem.{sheetProblem, sheet-symmetric}
-use Rattle.network.specs.Network.{problemIn, NetworkOf}
+use Rattle.network.specs.Network.{problemIn, NetworkOf, TriplesOf, network-holds}
 use Rattle.closing.specs.Asks.{Masks}
 use Rattle.engines.specs.Engine.{IsOrder, Hoods, hoodIn, Offered, Engine}
 use Rattle.engines.specs.EngineAsks.{RunAsks}
@@ -38,36 +38,40 @@ hoods-at xs hood e = record {
 
 -- ---- the network of an accepted sheet: it may be built once, and engines run on it many times
 
-module _ (xs : List ℕ) (net : Network) (forward turned : List ℕ) (t : NetworkOf xs net forward turned) where
+module _ (xs : List ℕ) (net : Network) (forward turned triples : List ℕ) (t : NetworkOf xs net forward turned)
+    (d : TriplesOf xs triples) where
+  holds : problemIn net forward turned triples ≡ sheetProblem xs
+  holds = network-holds xs net forward turned triples t d
+
   near : (f : ℕ) → f < sheetProblem xs .fields → getD (net .hood) f 0 ≡ neighbourhood (sheetProblem xs) (reachOf xs) f
   unfolding sheetProblem
   near f h = t .near f (rw (t .fields) h)
 
   -- the network of a sheet is what the engines ask
-  pub network-hoods : Hoods (problemIn net forward turned) (net .hood)
-  network-hoods = rw (t .problem) (hoods-at xs (net .hood) near)
+  pub network-hoods : Hoods (problemIn net forward turned triples) (net .hood)
+  network-hoods = rw holds (hoods-at xs (net .hood) near)
 
   -- What `run` asks, from an order of the sheet's fields, a mask of these and a set with settings of these fields only.
   pub run-asks : (order : List ℕ) (selected : ℕ) (S : List ℕ) → IsOrder (fieldsOf xs) order
       → ((f : ℕ) → bit selected f ≡ true → f < fieldsOf xs) → Masks S → ((f v : ℕ) → has S f v ≡ true → f < fieldsOf xs)
-      → RunAsks net forward turned order selected S
+      → RunAsks net forward turned triples order selected S
   unfolding problemOf
   run-asks order selected S visits low masks on = (
-    record { wired = t .wired; masks = masks; on = λ f v h. rw (t .fields) (on f v h) },
+    record { wired = t .wired; table = rw (t .fields) (d .table); masks = masks; on = λ f v h. rw (t .fields) (on f v h) },
     record {
       visits = rw (t .fields) visits;
-      selected-fields = λ f b. in-allFields (problemIn net forward turned) f (rw (t .fields) (low f b)) .1;
+      selected-fields = λ f b. in-allFields (problemIn net forward turned triples) f (rw (t .fields) (low f b)) .1;
       hoods = network-hoods;
     },
   )
 
   -- An engine on the network of a sheet answers with the sheet's offers at its reach, under the same selected fields.
   pub answers : (selected : ℕ) (S : List ℕ) (wiped : Bool) (R : List ℕ)
-      → Engine (problemIn net forward turned) (net .hood) selected S wiped R
+      → Engine (problemIn net forward turned triples) (net .hood) selected S wiped R
       → Offered (sheetProblem xs) (neighbourhood (sheetProblem xs) (reachOf xs)) selected S wiped R
   unfolding wipedOut hoodIn
   answers selected S wiped R e =
       let P = sheetProblem xs in
-      let own : Engine P (net .hood) selected S wiped R = rw (t .problem) at e in
+      let own : Engine P (net .hood) selected S wiped R = rw holds at e in
       let same = offers-same-hoods P (hoodIn (net .hood)) (neighbourhood P (reachOf xs)) selected (λ f i. near f (i .0)) S in
       record { wipes = own .wipes ∙ ap (someEmpty (P .fields)) same; made = λ z. own .made z ∙ same }

@@ -11,29 +11,31 @@ use Rattle.masks.specs.Sets.{getD-zeros}
 use Rattle.masks.specs.Settings.{someEmpty}
 use Rattle.consistency.specs.Problem.{Problem, In, OnFields, allFields}
 use Rattle.network.specs.declared.build.Network.{Network}
-use Rattle.network.specs.Tables.{problemOf, Wired}
+use Rattle.network.specs.Tables.{Wired}
+use Rattle.network.specs.TripleTable.{problemOf, TripleTable}
 use Rattle.pruning.specs.Shrunk.{small-⊆}
 use Rattle.closing.specs.Asks.{Masks, Blank, CloseAsks, LiveAsks, asks-shrunk}
 use Rattle.visiting.specs.Store.{HoodAsks}
 use Rattle.engines.specs.Engine.{IsOrder, Hoods, Begun, all-full, Kept}
 
 -- a set as it is given: settings of the problem's fields only
-pub record StartAsks (n : ℕ) (joined forward turned : List ℕ) (S : List ℕ) : Type 0 where
+pub record StartAsks (n : ℕ) (joined forward turned triples : List ℕ) (S : List ℕ) : Type 0 where
   pub wired : Wired n joined forward turned
+  pub table : TripleTable n triples
   pub masks : Masks S
-  pub on : OnFields (problemOf n joined forward turned) S
+  pub on : OnFields (problemOf n joined forward turned triples) S
 
 -- an order, the mask of the selected fields, and the masks of the neighbourhoods
-pub record Lent (n : ℕ) (joined forward turned : List ℕ) (order : List ℕ) (selected : ℕ) (hood : List ℕ) : Type 0 where
+pub record Lent (n : ℕ) (joined forward turned triples : List ℕ) (order : List ℕ) (selected : ℕ) (hood : List ℕ) : Type 0 where
   pub visits : IsOrder n order
-  pub selected-fields : Within selected (allFields (problemOf n joined forward turned))
-  pub hoods : Hoods (problemOf n joined forward turned) hood
+  pub selected-fields : Within selected (allFields (problemOf n joined forward turned triples))
+  pub hoods : Hoods (problemOf n joined forward turned triples) hood
 
--- What an engine asks of a network, its two tables, an order, a mask of selected fields and a set.
-abbrev pub RunAsks : Network → List ℕ → List ℕ → List ℕ → ℕ → List ℕ → Type 0
-RunAsks net forward turned order selected S =
-    StartAsks (net .fields) (net .joined) forward turned S
-    × Lent (net .fields) (net .joined) forward turned order selected (net .hood)
+-- What an engine asks of a network, its tables, an order, a mask of selected fields and a set.
+abbrev pub RunAsks : Network → List ℕ → List ℕ → List ℕ → List ℕ → ℕ → List ℕ → Type 0
+RunAsks net forward turned triples order selected S =
+    StartAsks (net .fields) (net .joined) forward turned triples S
+    × Lent (net .fields) (net .joined) forward turned triples order selected (net .hood)
 
 -- arrays of zeros are the spaces of closing
 pub blank-zeros : Blank (replicate supportWords 0) (replicate counterWords 0) (replicate counterWords 0) (replicate listPlaces 0)
@@ -46,30 +48,39 @@ blank-zeros = record {
   no-count = getD-zeros counterWords;
 }
 
-module _ (n : ℕ) (joined forward turned : List ℕ) where
+module _ (n : ℕ) (joined forward turned triples : List ℕ) where
   abbrev P : Problem
-  P = problemOf n joined forward turned
+  P = problemOf n joined forward turned triples
 
   -- closing at the start
-  pub start-asks : (S support counter copy list : List ℕ) → StartAsks n joined forward turned S → Blank support counter copy list
-      → someEmpty n S ≡ false → CloseAsks n joined forward turned S support counter copy list
+  pub start-asks : (S support counter copy list : List ℕ) → StartAsks n joined forward turned triples S → Blank support counter copy list
+      → someEmpty n S ≡ false → CloseAsks n joined forward turned triples S support counter copy list
   unfolding problemOf
-  start-asks S support counter copy list a b e = record { wired = a .wired; masks = a .masks; full = all-full P S e; blank = b }
+  start-asks S support counter copy list a b e = record {
+    wired = a .wired;
+    table = a .table;
+    masks = a .masks;
+    full = all-full P S e;
+    blank = b;
+  }
 
-  pub begun-asks : (S R : List ℕ) → StartAsks n joined forward turned S → Begun P S false R → LiveAsks n joined forward turned R
+  pub begun-asks : (S R : List ℕ) → StartAsks n joined forward turned triples S → Begun P S false R
+      → LiveAsks n joined forward turned triples R
   begun-asks S R a b = record {
     wired = a .wired;
+    table = a .table;
     masks = record { long = b .sized ∙ a .masks .long; small = small-⊆ S R (b .inside refl) (a .masks .small) };
     live = b .live refl;
   }
 
-  pub kept-asks : {hood : List ℕ} {selected : ℕ} {S R : List ℕ} {touched : ℕ} → LiveAsks n joined forward turned S
+  pub kept-asks : {hood : List ℕ} {selected : ℕ} {S R : List ℕ} {touched : ℕ} → LiveAsks n joined forward turned triples S
       → Kept P hood selected S touched R
-      → LiveAsks n joined forward turned R
-  kept-asks {S = S} a k = asks-shrunk n joined forward turned S a (k .shrunk) (k .live)
+      → LiveAsks n joined forward turned triples R
+  kept-asks {S = S} a k = asks-shrunk n joined forward turned triples S a (k .shrunk) (k .live)
 
   -- what the visit of a field of the order asks
-  module _ (order : List ℕ) (selected : ℕ) (hood : List ℕ) (l : Lent n joined forward turned order selected hood) (few : n ≤ mostFields)
+  module _ (order : List ℕ) (selected : ℕ) (hood : List ℕ) (l : Lent n joined forward turned triples order selected hood)
+      (few : n ≤ mostFields)
       (q : ℕ) (h : q < n) where
     abbrev f : ℕ
     f = getD order q 0

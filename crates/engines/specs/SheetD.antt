@@ -13,7 +13,7 @@ use Rattle.masks.specs.Sets.{has, only, count, same, getD-zeros}
 use Rattle.masks.specs.Settings.{cut, empty, someEmpty}
 use Rattle.masks.specs.Pick.{pick}
 use Rattle.consistency.specs.Largest.{sweep, sweeps, largest}
-use Rattle.consistency.specs.Problem.{allFields}
+use Rattle.consistency.specs.Problem.{listTriples, allFields, linked}
 use Rattle.consistency.specs.Closing.{partner, supportedBy, supported, closing}
 use Rattle.consistency.specs.Neighbourhood.{widen, fieldsWithin, neighbourhood}
 use Rattle.consistency.specs.Passing.{noneEmpty, passesOver}
@@ -92,7 +92,7 @@ computed : (wipedOut (sheetProblem numbersOfD) hoodOfD 3 startOfD ≡ false)
     × (offers (sheetProblem numbersOfD) hoodOfD 3 startOfD ≡ offersOfD)
 unfolding wipedOut offers stays isSelected passesOver noneEmpty neighbourhood fieldsWithin widen allFields closing supported supportedBy
     partner largest sweeps sweep someEmpty empty cut same count only countBits countIn someBit someIn keepBits keepIn maskOf bit
-    someBelow allBelow sheetProblem runs pairs pick fieldStart ruleStart
+    someBelow allBelow sheetProblem runs pairs pick fieldStart ruleStart linked listTriples
 computed = (refl, refl)
 
 -- The only answer there: not wiped out, and the offers (6, 3).

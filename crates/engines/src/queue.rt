@@ -68,17 +68,22 @@ fn round<'a>(
     list: &mut [u32; LIST_PLACES],
     forward: &'a [u32],
     turned: &'a [u32],
+    triples: &[u32],
 ) -> Waiting
-    requires { ⌜ LiveAsks (net .fields) (net .joined) (now forward) (now turned) (now m)
-        × Store (problemIn net (now forward) (now turned)) (net .hood) (now m) (now known) (now memory) ⌝ }
-    requires { ⌜ Lent (net .fields) (net .joined) (now forward) (now turned) (now order) selected (net .hood)
+    requires { ⌜ LiveAsks (net .fields) (net .joined) (now forward) (now turned) (now triples) (now m)
+        × Store (problemIn net (now forward) (now turned) (now triples)) (net .hood) (now m) (now known) (now memory) ⌝ }
+    requires { ⌜ Lent (net .fields) (net .joined) (now forward) (now turned) (now triples) (now order) selected (net .hood)
         × Within waiting selected ⌝ }
-    requires { ⌜ Counted (problemIn net (now forward) (now turned)) (now support) (now counter) (now copy) (now list) (now m) ⌝ }
-    ensures { λ r. ⌜ Rounded (problemIn net (now (forward .entry)) (now (turned .entry))) (now (order .entry)) (net .hood) selected
+    requires { ⌜ Counted (problemIn net (now forward) (now turned) (now triples)) (now support) (now counter) (now copy) (now list)
+        (now m) ⌝ }
+    ensures { λ r. ⌜ Rounded (problemIn net (now (forward .entry)) (now (turned .entry)) (now (triples .entry))) (now (order .entry))
+        (net .hood) selected
         (now (m .entry)) waiting (r .wiped) (r .queue) (now (m .exit))
-        × (r .wiped ≡ false → Store (problemIn net (now (forward .entry)) (now (turned .entry))) (net .hood) (now (m .exit))
+        × (r .wiped ≡ false → Store (problemIn net (now (forward .entry)) (now (turned .entry)) (now (triples .entry))) (net .hood)
+        (now (m .exit))
         (now (known .exit)) (now (memory .exit)))
-        × (r .wiped ≡ false → Counted (problemIn net (now (forward .entry)) (now (turned .entry))) (now (support .entry))
+        × (r .wiped ≡ false → Counted (problemIn net (now (forward .entry)) (now (turned .entry)) (now (triples .entry)))
+        (now (support .entry))
         (now (counter .exit)) (now (copy .exit)) (now (list .exit)) (now (m .exit))) ⌝ }
 {
     let n = net.fields;
@@ -101,6 +106,7 @@ fn round<'a>(
                 list,
                 forward,
                 turned,
+                triples,
             );
             if r.wiped {
                 return Waiting { wiped: true, queue };
@@ -127,14 +133,26 @@ pub fn queued<'a>(
     list: &mut [u32; LIST_PLACES],
     forward: &'a [u32],
     turned: &'a [u32],
+    triples: &[u32],
 ) -> bool
-    requires { ⌜ RunAsks net (now forward) (now turned) (now order) selected (now m) ⌝ }
+    requires { ⌜ RunAsks net (now forward) (now turned) (now triples) (now order) selected (now m) ⌝ }
     requires { ⌜ memoryWords ≤ length (now memory) ⌝ }
     requires { ⌜ Blank (now support) (now counter) (now copy) (now list) ⌝ }
-    ensures { λ r. ⌜ Engine (problemIn net (now (forward .entry)) (now (turned .entry))) (net .hood) selected (now (m .entry)) r
+    ensures { λ r. ⌜ Engine (problemIn net (now (forward .entry)) (now (turned .entry)) (now (triples .entry))) (net .hood) selected
+        (now (m .entry)) r
         (now (m .exit)) ⌝ }
 {
-    if begin(m, net, counter, copy, support, list, forward, turned) {
+    if begin(
+        m,
+        net,
+        counter,
+        copy,
+        support,
+        list,
+        forward,
+        turned,
+        triples,
+    ) {
         return true;
     }
     let mut known = [0u32; FIELDS];
@@ -154,6 +172,7 @@ pub fn queued<'a>(
             list,
             forward,
             turned,
+            triples,
         );
         if r.wiped {
             return true;

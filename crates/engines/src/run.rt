@@ -29,10 +29,12 @@ pub fn run<'a>(
     net: Network,
     forward: &'a [u32],
     turned: &'a [u32],
+    triples: &[u32],
 ) -> bool
-    requires { ⌜ RunAsks net (now forward) (now turned) (now order) selected (now m) ⌝ }
+    requires { ⌜ RunAsks net (now forward) (now turned) (now triples) (now order) selected (now m) ⌝ }
     requires { ⌜ memoryWords ≤ length (now memory) ⌝ }
-    ensures { λ r. ⌜ Engine (problemIn net (now (forward .entry)) (now (turned .entry))) (net .hood) selected (now (m .entry)) r
+    ensures { λ r. ⌜ Engine (problemIn net (now (forward .entry)) (now (turned .entry)) (now (triples .entry))) (net .hood) selected
+        (now (m .entry)) r
         (now (m .exit)) ⌝ }
 {
     let mut counter = [0u32; COUNTER_WORDS];
@@ -53,6 +55,7 @@ pub fn run<'a>(
             &mut list,
             forward,
             turned,
+            triples,
         ),
         QUEUE => queued(
             m,
@@ -66,6 +69,7 @@ pub fn run<'a>(
             &mut list,
             forward,
             turned,
+            triples,
         ),
         _ => sac(
             m,
@@ -80,6 +84,7 @@ pub fn run<'a>(
             &mut list,
             forward,
             turned,
+            triples,
         ),
     }
 }

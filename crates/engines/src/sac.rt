@@ -32,11 +32,14 @@ pub fn begin<'a>(
     list: &mut [u32; LIST_PLACES],
     forward: &'a [u32],
     turned: &'a [u32],
+    triples: &[u32],
 ) -> bool
-    requires { ⌜ StartAsks (net .fields) (net .joined) (now forward) (now turned) (now m) ⌝ }
+    requires { ⌜ StartAsks (net .fields) (net .joined) (now forward) (now turned) (now triples) (now m) ⌝ }
     requires { ⌜ Blank (now support) (now counter) (now copy) (now list) ⌝ }
-    ensures { λ r. ⌜ Begun (problemIn net (now (forward .entry)) (now (turned .entry))) (now (m .entry)) r (now (m .exit))
-        × (r ≡ false → Counted (problemIn net (now (forward .entry)) (now (turned .entry))) (now (support .exit)) (now (counter .exit))
+    ensures { λ r. ⌜ Begun (problemIn net (now (forward .entry)) (now (turned .entry)) (now (triples .entry))) (now (m .entry)) r
+        (now (m .exit))
+        × (r ≡ false → Counted (problemIn net (now (forward .entry)) (now (turned .entry)) (now (triples .entry))) (now (support .exit))
+        (now (counter .exit))
         (now (copy .exit)) (now (list .exit)) (now (m .exit))) ⌝ }
 {
     let n = net.fields;
@@ -55,6 +58,7 @@ pub fn begin<'a>(
         &net.joined,
         forward,
         turned,
+        triples,
     );
     r.wiped
 }
@@ -82,16 +86,21 @@ fn pass<'a>(
     list: &mut [u32; LIST_PLACES],
     forward: &'a [u32],
     turned: &'a [u32],
+    triples: &[u32],
 ) -> Narrowed
-    requires { ⌜ LiveAsks (net .fields) (net .joined) (now forward) (now turned) (now m)
-        × Store (problemIn net (now forward) (now turned)) (net .hood) (now m) (now known) (now memory) ⌝ }
-    requires { ⌜ Lent (net .fields) (net .joined) (now forward) (now turned) (now order) selected (net .hood) ⌝ }
-    requires { ⌜ Counted (problemIn net (now forward) (now turned)) (now support) (now counter) (now copy) (now list) (now m) ⌝ }
-    ensures { λ r. ⌜ Passed (problemIn net (now (forward .entry)) (now (turned .entry))) (now (order .entry)) (net .hood) selected
+    requires { ⌜ LiveAsks (net .fields) (net .joined) (now forward) (now turned) (now triples) (now m)
+        × Store (problemIn net (now forward) (now turned) (now triples)) (net .hood) (now m) (now known) (now memory) ⌝ }
+    requires { ⌜ Lent (net .fields) (net .joined) (now forward) (now turned) (now triples) (now order) selected (net .hood) ⌝ }
+    requires { ⌜ Counted (problemIn net (now forward) (now turned) (now triples)) (now support) (now counter) (now copy) (now list)
+        (now m) ⌝ }
+    ensures { λ r. ⌜ Passed (problemIn net (now (forward .entry)) (now (turned .entry)) (now (triples .entry))) (now (order .entry))
+        (net .hood) selected
         (now (m .entry)) (r .wiped) (r .changed) (now (m .exit))
-        × (r .wiped ≡ false → Store (problemIn net (now (forward .entry)) (now (turned .entry))) (net .hood) (now (m .exit))
+        × (r .wiped ≡ false → Store (problemIn net (now (forward .entry)) (now (turned .entry)) (now (triples .entry))) (net .hood)
+        (now (m .exit))
         (now (known .exit)) (now (memory .exit)))
-        × (r .wiped ≡ false → Counted (problemIn net (now (forward .entry)) (now (turned .entry))) (now (support .entry))
+        × (r .wiped ≡ false → Counted (problemIn net (now (forward .entry)) (now (turned .entry)) (now (triples .entry)))
+        (now (support .entry))
         (now (counter .exit)) (now (copy .exit)) (now (list .exit)) (now (m .exit))) ⌝ }
 {
     let n = net.fields;
@@ -114,6 +123,7 @@ fn pass<'a>(
                 list,
                 forward,
                 turned,
+                triples,
             );
             if r.wiped {
                 return Narrowed {
@@ -144,14 +154,26 @@ pub fn sac<'a>(
     list: &mut [u32; LIST_PLACES],
     forward: &'a [u32],
     turned: &'a [u32],
+    triples: &[u32],
 ) -> bool
-    requires { ⌜ RunAsks net (now forward) (now turned) (now order) selected (now m) ⌝ }
+    requires { ⌜ RunAsks net (now forward) (now turned) (now triples) (now order) selected (now m) ⌝ }
     requires { ⌜ memoryWords ≤ length (now memory) ⌝ }
     requires { ⌜ Blank (now support) (now counter) (now copy) (now list) ⌝ }
-    ensures { λ r. ⌜ Engine (problemIn net (now (forward .entry)) (now (turned .entry))) (net .hood) selected (now (m .entry)) r
+    ensures { λ r. ⌜ Engine (problemIn net (now (forward .entry)) (now (turned .entry)) (now (triples .entry))) (net .hood) selected
+        (now (m .entry)) r
         (now (m .exit)) ⌝ }
 {
-    if begin(m, net, counter, copy, support, list, forward, turned) {
+    if begin(
+        m,
+        net,
+        counter,
+        copy,
+        support,
+        list,
+        forward,
+        turned,
+        triples,
+    ) {
         return true;
     }
     let mut known = [0u32; FIELDS];
@@ -170,6 +192,7 @@ pub fn sac<'a>(
             list,
             forward,
             turned,
+            triples,
         );
         if r.wiped {
             return true;

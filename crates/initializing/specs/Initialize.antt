@@ -19,6 +19,7 @@ use Rattle.removal_list.specs.Count.{Small, count-most}
 use Rattle.removal_list.specs.Moved.{Moved, moved-none, moved-then}
 use Rattle.consistency.specs.Problem.{Problem, Symmetric, In, allFields, in-allFields, allFields-bound}
 use Rattle.consistency.specs.Closing.{closing, closing-is}
+use Rattle.consistency.specs.Revising.{NoTriples}
 use Rattle.consistency.specs.Passing.{NoneEmpty, noneEmpty}
 use Rattle.pruning.specs.Counting.{howMany, countBelow-cong, countBelow-by}
 use Rattle.pruning.specs.Shrunk.{or-within, small-⊆, Shrunk, shrunk-none, shrunk-then}
@@ -69,12 +70,13 @@ module _ (P : Problem) where
     pub record Initialized (wiped : Bool) (changed : ℕ) (D L : List ℕ) (t : ℕ) (S C : List ℕ) : Type 0 where
       pub moved : Moved D0 L0 0 D L t
       pub wipes : wiped ≡ true → noneEmpty P (allFields P) (closing P (allFields P) D0) ≡ false
-      pub asks : wiped ≡ false → PruneAsks P (allFields P) S D L t C
+      pub asks : wiped ≡ false → PruneAsks P (allFields P) S 0 D L t C
       pub closing-kept : wiped ≡ false → closing P (allFields P) D0 ⊆ D
       pub shrunk : wiped ≡ false → Shrunk D0 D changed
       pub marks : wiped ≡ false → Within changed (allFields P)
 
     pub record InitializeAsks (S C : List ℕ) : Type 0 where
+      pub alone : NoTriples P
       pub long : length D0 ≡ mostFields
       pub small : Small D0
       pub places : length L0 ≡ listPlaces
@@ -122,12 +124,14 @@ module _ (P : Problem) where
           moved = p .moved;
           wipes = λ q. absurd (true≢false (sym q));
           asks = λ _. record {
+            alone = ask .alone;
             listed = record {
               whole = D0;
               before = L0;
               long = ask .long;
               small = ask .small;
               places = ask .places;
+              room = let m = count-most D0 (ask .small) in let n = ask .long in omega arith;
               moved = p .moved;
               counts = record {
                 sized = p .long-C;

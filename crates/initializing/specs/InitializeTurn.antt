@@ -14,7 +14,7 @@ use Rattle.masks.specs.Sets.{count}
 use Rattle.counter.specs.Counts.{Uncounted}
 use Rattle.removal_list.specs.Count.{Small}
 use Rattle.consistency.specs.Problem.{Problem, in-allFields}
-use Rattle.network.specs.Tables.{rowsOf, problemOf, Wired}
+use Rattle.network.specs.Tables.{rowsOf, ruleProblem, Wired}
 use Rattle.pruning.specs.Drop.{Dropped}
 use Rattle.initializing.specs.Initialize.{Recorded, Initializing, Initialized, InitializeAsks, room-enough, now-sized, now-small}
 use Rattle.initializing.specs.Initialize.{initializing-start, initializing-end, initializing-none, initializing-turn}
@@ -23,12 +23,12 @@ use Rattle.initializing.specs.Count.{CountsMade, counted-towards}
 use Rattle.pruning.specs.Fields.{fields-small}
 
 module _ (n : ℕ) (joined forward turned : List ℕ) (wired : Wired n joined forward turned) (D0 L0 S0 C0 : List ℕ)
-    (ask : InitializeAsks (problemOf n joined forward turned) D0 L0 S0 C0) where
+    (ask : InitializeAsks (ruleProblem n joined forward turned) D0 L0 S0 C0) where
   abbrev P : Problem
-  P = problemOf n joined forward turned
+  P = ruleProblem n joined forward turned
 
   few : P .fields ≤ mostFields
-  unfolding problemOf
+  unfolding ruleProblem
   few = wired .few
 
   pub initialize-start : Initializing P D0 L0 0 0 D0 L0 0 S0 C0
@@ -36,7 +36,7 @@ module _ (n : ℕ) (joined forward turned : List ℕ) (wired : Wired n joined fo
 
   module _ (k changed : ℕ) (D L : List ℕ) (t : ℕ) (S C : List ℕ) (p : Initializing P D0 L0 k changed D L t S C) where
     pub initialize-end : k ≡ n → Initialized P D0 L0 false changed D L t S C
-    unfolding problemOf
+    unfolding ruleProblem
     initialize-end e = initializing-end P D0 L0 (wired .symmetric) few S0 C0 ask k changed D L t S C p e
 
     module _ (l : k < n) where
@@ -44,10 +44,10 @@ module _ (n : ℕ) (joined forward turned : List ℕ) (wired : Wired n joined fo
       near = getD joined k 0
 
       near-low : getD joined k 0 < 2 ^ mostFields
-      unfolding problemOf
+      unfolding ruleProblem
       near-low =
           fields-small n joined forward turned near (wired .few)
-          (λ f e. in-allFields (problemOf n joined forward turned) f (wired .ends k f e .1) .1)
+          (λ f e. in-allFields (ruleProblem n joined forward turned) f (wired .ends k f e .1) .1)
 
       small : Small D
       small = now-small P D0 L0 (wired .symmetric) few S0 C0 ask k changed D L t S C p
@@ -78,7 +78,7 @@ module _ (n : ℕ) (joined forward turned : List ℕ) (wired : Wired n joined fo
         rec = recorded n joined forward turned wired D S small k (λ q h. p .none-S q (omega arith)) R r
 
         pub initialized-none : Dropped (getD joined k 0) none D L t true lost Q K v → (any : ℕ) → Initialized P D0 L0 true any Q K v R E
-        unfolding problemOf
+        unfolding ruleProblem
         initialized-none d any =
             initializing-none P D0 L0 (wired .symmetric) few S0 C0 ask k changed D L t S C p l R rec E
             (counted-towards P few D R S k rec C E (λ i a h. p .none-C k i a (le-refl k) h) m) n (le-refl n) none u near (λ f. refl)
@@ -86,7 +86,7 @@ module _ (n : ℕ) (joined forward turned : List ℕ) (wired : Wired n joined fo
 
         pub initialized-next : Dropped (getD joined k 0) none D L t false lost Q K v
             → Initializing P D0 L0 (k + 1) (bitOr changed lost) Q K v R E
-        unfolding problemOf
+        unfolding ruleProblem
         initialized-next d =
             initializing-turn P D0 L0 (wired .symmetric) few S0 C0 ask k changed D L t S C p l R rec E
             (counted-towards P few D R S k rec C E (λ i a h. p .none-C k i a (le-refl k) h) m) n (le-refl n) none u near (λ f. refl)

@@ -18,7 +18,7 @@ use Rattle.masks.specs.Words.{bit-and, clear, clear-within, clear-other}
 use Rattle.masks.specs.Floods.{flood, flood-at, flood-by}
 use Rattle.masks.specs.Sets.{has}
 use Rattle.removal_list.specs.Count.{Small}
-use Rattle.network.specs.Tables.{rowsOf, problemOf, Wired}
+use Rattle.network.specs.Tables.{rowsOf, ruleProblem, Wired}
 use Rattle.pruning.specs.Supports.{supports}
 use Rattle.pruning.specs.SupportSet.{wordOf}
 use Rattle.initializing.specs.Initialize.{Recorded}
@@ -113,8 +113,8 @@ module _ (n : ℕ) (joined forward turned : List ℕ) (wired : Wired n joined fo
   arc-bit : (row own di b a : ℕ) → bit (bitAnd (bitAnd row (flood own b)) di) a ≡ ((bit row a && bit (flood own b) a) && bit di a)
   arc-bit row own di b a = bit-and (bitAnd row (flood own b)) di a ∙ ap (λ (x : Bool). x && bit di a) (bit-and row (flood own b) a)
 
-  pub recorded : Recorded (problemOf n joined forward turned) D S j R
-  unfolding problemOf supports has
+  pub recorded : Recorded (ruleProblem n joined forward turned) D S j R
+  unfolding ruleProblem supports has
   recorded = record {
     sized = p .sized;
     here = λ b i a h l. ⊎-elim

@@ -4,7 +4,7 @@ ghost use mathlib.Core.Path.{_≡_};
 ghost use Prim.Native.Nat.{_^_, _≤_, _<_};
 ghost use lib.ListN.{length};
 ghost use Rattle.limits.specs.Limits.{mostFields, mostSettings, counterWords};
-ghost use Rattle.network.specs.Tables.{problemOf, Wired};
+ghost use Rattle.network.specs.Tables.{ruleProblem, Wired};
 ghost use Rattle.initializing.specs.Count.{CountsMade};
 ghost use Rattle.initializing.specs.Initialize.{InitializeAsks, Initialized};
 use super::record::record;
@@ -59,8 +59,8 @@ pub fn initialize_ac<'a>(
     turned: &'a [u32],
 ) -> AfterInitialize
     requires { ⌜ Wired n (now joined) (now forward) (now turned)
-        × InitializeAsks (problemOf n (now joined) (now forward) (now turned)) (now d) (now list) (now support) (now counter) ⌝ }
-    ensures { λ r. ⌜ Initialized (problemOf n (now (joined .entry)) (now (forward .entry)) (now (turned .entry))) (now (d .entry))
+        × InitializeAsks (ruleProblem n (now joined) (now forward) (now turned)) (now d) (now list) (now support) (now counter) ⌝ }
+    ensures { λ r. ⌜ Initialized (ruleProblem n (now (joined .entry)) (now (forward .entry)) (now (turned .entry))) (now (d .entry))
         (now (list .entry)) (r .wiped) (r .changed) (now (d .exit)) (now (list .exit)) (r .tail) (now (support .exit))
         (now (counter .exit)) ⌝ }
 {

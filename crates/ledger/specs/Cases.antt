@@ -11,7 +11,7 @@ use Rattle.masks.specs.Sets.{has, only, count, same, pad}
 use Rattle.masks.specs.Settings.{cut, empty, someEmpty}
 use Rattle.masks.specs.Pick.{pick}
 use Rattle.consistency.specs.Largest.{sweep, sweeps, largest}
-use Rattle.consistency.specs.Problem.{allFields}
+use Rattle.consistency.specs.Problem.{listTriples, allFields, linked}
 use Rattle.consistency.specs.Closing.{partner, supportedBy, supported, closing}
 use Rattle.consistency.specs.Neighbourhood.{widen, fieldsWithin, neighbourhood}
 use Rattle.consistency.specs.Passing.{noneEmpty, passesOver}
@@ -115,11 +115,11 @@ pub order-of-causes :
     -- 12 before 14; back is not refused by 12
     × (number (givenD 1 rising) (decides CHOOSE 0 0) full ≡ 12) × (number (givenD 1 rising) (decides CHOOSE 0 0) (opened 3) ≡ 14)
     × (number (givenD 1 rising) Back full ≡ 0)
-unfolding pastOf wipedOut offers stays isSelected passesOver noneEmpty neighbourhood fieldsWithin widen allFields closing supported
-    supportedBy partner largest sweeps sweep someEmpty empty cut same count only countBits countIn someBit someIn keepBits keepIn maskOf
-    bit has pad someBelow allBelow tabulate occurrences number first causes judged malformed noEngine isOrder spaceShort noSelection
-    reversible allOnSheet onSheet inForce sameDecision without changeBy backed step otherChosen starts startSet offersOf wiped outlineOf
-    refusalFrom numbers items numberAt groups pick advance fieldStart ruleStart sheetProblem runs pairs
+unfolding pastOf wipedOut offers stays isSelected passesOver noneEmpty neighbourhood fieldsWithin linked listTriples widen allFields
+    closing supported supportedBy partner largest sweeps sweep someEmpty empty cut same count only countBits countIn someBit someIn
+    keepBits keepIn maskOf bit has pad someBelow allBelow tabulate occurrences number first causes judged malformed noEngine isOrder
+    spaceShort noSelection reversible allOnSheet onSheet inForce sameDecision without changeBy backed step otherChosen starts startSet
+    offersOf wiped outlineOf refusalFrom numbers items numberAt groups pick advance fieldStart ruleStart sheetProblem runs pairs
 order-of-causes = (
   refl,
   refl,

@@ -22,7 +22,7 @@ use Rattle.accepted.specs.Lists.{tabulate-past}
 use Rattle.accepted.specs.Parts.{reachOf}
 use Rattle.accepted.specs.Facts.{facts}
 use Rattle.accepted.specs.Outline.{outlineOf}
-use Rattle.network.specs.SheetProblem.{sheetProblem}
+use Rattle.network.specs.SheetProblem.{sheetProblem, sheet-triples}
 use Rattle.ledger.specs.declared.Event.{Event}
 use Rattle.ledger.specs.declared.Call.{Call}
 use Rattle.ledger.specs.declared.Call.the-variants.{Open, Show, Decide, Back, CoilOn}
@@ -104,7 +104,8 @@ module _ (xs : List ℕ) where
       → offersOf xs l ≡ offersAllTested (sheetProblem xs) (reachOf xs) (startSet (outlineOf xs) (l .decisions))
   unfolding offersOf
   all-selected a l every =
-      offers-all-selected P (reachOf xs) (facts xs a .reach-some) (l .selected) every (start l) (start-on (l .decisions))
+      offers-all-selected P (reachOf xs) (facts xs a .reach-some) (sheet-triples xs a) (l .selected) every (start l)
+      (start-on (l .decisions))
 
   -- THE THEOREM: under the same decisions a selection that includes another offers no setting that the other doesn't.
   pub more-selected : (l m : Ledger) → Alike (l .decisions) (m .decisions) → Within (m .selected) (l .selected)

@@ -5,6 +5,7 @@ use mathlib.Core.Bool.{Bool, true, false, not, _&&_, and-false}
 use mathlib.Core.List.{List, _++_}
 use Prim.Native.Nat.{ℕ, _<_}
 use native.Mathlib.Omega.{arith}
+use lib.ListN.{length}
 use lib.Dec.{eqb}
 use borrow.Author.Tests.{eqb-true, eq-eqb, ne-eqb, lt-ltb}
 use Rattle.limits.specs.Refusals.{UNKNOWN, NO-ORDER}
@@ -15,14 +16,16 @@ use Rattle.masks.specs.Masks.{keepBits, bit-keepBits, someBit-at, someBit-by}
 use Rattle.masks.specs.Sets.{has}
 use Rattle.masks.specs.Pick.{pick}
 use Rattle.consistency.specs.SetUps as setUps
-use Rattle.consistency.specs.Problem.{Problem, SetUp}
+use Rattle.consistency.specs.Problem.{length-triples, listed-triple, Problem, tripleAt, SetUp}
 use Rattle.consistency.specs.Neighbourhood.{neighbourhood}
-use Rattle.sheet.specs.Sources.{numbers, ofBytes}
+use Rattle.sheet.specs.Sources.{Accepted, numbers, ofBytes}
 use Rattle.accepted.specs.declared.outline.Outline.{Outline}
 use Rattle.accepted.specs.Lists.{getD-tabulate}
-use Rattle.accepted.specs.Parts.{fieldsOf, countOf, reachOf, rulesOf, firstOf, secondOf, ruleAllows}
+use Rattle.accepted.specs.Parts.{fieldsOf, countOf, reachOf, rulesOf, firstOf, secondOf, ruleAllows, triplesOf, tripleFirst, tripleSecond}
+use Rattle.accepted.specs.Parts.{tripleThird, tripleAllows}
+use Rattle.accepted.specs.Facts.{facts}
 use Rattle.accepted.specs.Outline.{outlineOf, full-has}
-use Rattle.network.specs.SheetProblem.{runs, runs-at, pairs, joins, allowsPair, sheetProblem}
+use Rattle.network.specs.SheetProblem.{runs, runs-at, pairs, joins, allowsPair, sheetTriple, sheetProblem, sheet-triples}
 use Rattle.ledger.specs.declared.Event.{Event}
 use Rattle.ledger.specs.declared.Call.{Call}
 use Rattle.ledger.specs.declared.Call.the-variants.{Open, Show, Decide, Back, CoilOn}
@@ -86,14 +89,18 @@ module _ (o : Outline) (ds : List Decision) (f : ℕ) where
 
 -- ---- every setting of a complete set-up that obeys the decisions is offered
 
--- a setting for each field, each rule allowing its pair, none struck, and none other than a chosen one
+-- a setting for each field, each rule allowing its pair and each triple rule its three, none struck, and none other than a chosen one
 pub record Obeys (xs : List ℕ) (ds : List Decision) (a : ℕ → ℕ) : Type 0 where
   pub on : (f : ℕ) → f < fieldsOf xs → a f < countOf xs f
   pub allowed : (r : ℕ) → r < rulesOf xs → ruleAllows xs r (a (firstOf xs r)) (a (secondOf xs r)) ≡ true
+  pub even : (t : ℕ) → t < triplesOf xs → tripleAllows xs t (a (tripleFirst xs t)) (a (tripleSecond xs t)) (a (tripleThird xs t)) ≡ true
   pub unstruck : (f : ℕ) → f < fieldsOf xs → inForce ds (strike f (a f)) ≡ false
   pub chosen : (f u : ℕ) → f < fieldsOf xs → inForce ds (choice f u) ≡ true → u ≡ a f
 
-module _ (xs : List ℕ) (ds : List Decision) (a : ℕ → ℕ) (o : Obeys xs ds a) where
+module _ (xs : List ℕ) (accepted : Accepted xs) (ds : List Decision) (a : ℕ → ℕ) (o : Obeys xs ds a) where
+  on-sheet : (f : ℕ) → f < fieldsOf xs → has (outlineOf xs .full) f (a f) ≡ true
+  on-sheet f h = full-has xs f (a f) ∙ and-by _ _ (lt-ltb f _ h) (lt-ltb (a f) _ (o .on f h))
+
   starts-so : (f : ℕ) → f < fieldsOf xs → starts (outlineOf xs) ds f (a f) ≡ true
   unfolding starts
   starts-so f h = and-by _ _ (ap not (o .unstruck f h)) (ap not (not-so (otherChosen (outlineOf xs) ds f (a f)) (λ s.
@@ -102,12 +109,11 @@ module _ (xs : List ℕ) (ds : List Decision) (a : ℕ → ℕ) (o : Obeys xs ds
   inside : (f : ℕ) → f < fieldsOf xs → has (startSet (outlineOf xs) ds) f (a f) ≡ true
   unfolding has startSet
   inside f h =
-      let on : has (outlineOf xs .full) f (a f) ≡ true = full-has xs f (a f) ∙ and-by _ _ (lt-ltb f _ h) (lt-ltb (a f) _ (o .on f h)) in
       let n : f < outlineOf xs .fields = unfold outlineOf in h in
       ap (λ (m : ℕ). bit m (a f))
       (getD-tabulate (outlineOf xs .fields) (λ f. keepBits (settings (outlineOf xs) f) (starts (outlineOf xs) ds f)) f n)
       ∙ bit-keepBits (settings (outlineOf xs) f) (starts (outlineOf xs) ds f) (a f)
-      ∙ and-by _ _ on (starts-so f h)
+      ∙ and-by _ _ (on-sheet f h) (starts-so f h)
 
   -- where a rule joins two fields, it allows their settings
   both : (f g r : ℕ) → f < fieldsOf xs → g < fieldsOf xs → r < rulesOf xs → runs xs f g r ≡ true → pairs xs f g (a f) (a g) r ≡ true
@@ -126,8 +132,30 @@ module _ (xs : List ℕ) (ds : List Decision) (a : ℕ → ℕ) (o : Obeys xs ds
       (λ q. or-r (runs xs f g (x .0) && pairs xs f g (a f) (a g) (x .0)) _ (and-by _ _ q (both g f (x .0) k h (x .1) q)))
       (or-at (runs xs f g (x .0)) (runs xs g f (x .0)) (x .2)))
 
+  -- each triple rule allows its three
+  fits : (t : ℕ) → t < length (sheetProblem xs .triples)
+      → tripleAt (sheetProblem xs) t .fits (a (tripleAt (sheetProblem xs) t .first)) (a (tripleAt (sheetProblem xs) t .second))
+      (a (tripleAt (sheetProblem xs) t .third)) ≡ true
+  unfolding sheetProblem sheetTriple
+  fits t l =
+      let n = length-triples (triplesOf xs) (sheetTriple xs) in
+      let h : t < triplesOf xs = omega arith in
+      let fs = facts xs accepted in
+      let x = fs .triple-apart t h in
+      let y = fs .triple-above t h in
+      let z = fs .triple-within t h in
+      rw (listed-triple (triplesOf xs) (sheetTriple xs) t h)
+      (and-by _ _ (lt-ltb _ _ (o .on (tripleFirst xs t) (omega arith)))
+      (and-by _ _ (lt-ltb _ _ (o .on (tripleSecond xs t) (omega arith)))
+      (and-by _ _ (lt-ltb _ _ (o .on (tripleThird xs t) z)) (o .even t h))))
+
   set-up : SetUp (sheetProblem xs) (startSet (outlineOf xs) ds) a
-  set-up = record { inside = λ f h. inside f (field f h); agrees = λ f g h k. unfold sheetProblem in agrees f g (field f h) (field g k) }
+  set-up = record {
+    inside = λ f h. inside f (field f h);
+    listed = λ f h. unfold sheetProblem in on-sheet f (field f h);
+    agrees = λ f g h k. unfold sheetProblem in agrees f g (field f h) (field g k);
+    fit = fits;
+  }
     where
       field : (f : ℕ) → f < sheetProblem xs .fields → f < fieldsOf xs
       field f h = unfold sheetProblem in h
@@ -139,12 +167,13 @@ module _ (xs : List ℕ) (ds : List Decision) (a : ℕ → ℕ) (o : Obeys xs ds
   pub set-up-kept : (es : List Event) (selected f : ℕ) → f < fieldsOf xs
       → has (offersOf xs (record { decisions = ds; events = es; selected = selected })) f (a f) ≡ true
   set-up-kept es selected f h = unfold offersOf in
-      setUps.set-up-offered P (startSet (outlineOf xs) ds) a set-up (neighbourhood P (reachOf xs)) selected f (unfold sheetProblem in h)
+      setUps.set-up-offered P (sheet-triples xs accepted) (startSet (outlineOf xs) ds) a set-up (neighbourhood P (reachOf xs)) selected f
+      (unfold sheetProblem in h)
 
   -- so it is not refused as wiped out
   pub set-up-shown : (es : List Event) (selected : ℕ) → wiped xs (record { decisions = ds; events = es; selected = selected }) ≡ false
   set-up-shown es selected = unfold wiped in
-      setUps.set-up-not-wiped P (startSet (outlineOf xs) ds) a set-up (neighbourhood P (reachOf xs)) selected
+      setUps.set-up-not-wiped P (sheet-triples xs accepted) (startSet (outlineOf xs) ds) a set-up (neighbourhood P (reachOf xs)) selected
 
 -- ---- a withdrawn decision leaves the page as if it had never been made
 

@@ -2,7 +2,7 @@
 use mathlib.Core.Path.{_≡_, refl, sym, ap, ap₂, _∙_}
 use mathlib.Core.Logic.{⊎-elim}
 use mathlib.Core.Bool.{Bool, true, false, _&&_, and-false}
-use mathlib.Core.List.{List}
+use mathlib.Core.List.{List, []}
 use Prim.Native.Nat.{ℕ, _+_, _*_, _≤_, _<_}
 use native.Mathlib.Omega.{arith}
 use lib.Dec.{ltb}
@@ -14,13 +14,14 @@ use Rattle.masks.specs.Tests.{never, not-so, bool-cases, iff-eq, and-l, and-r, 
 use Rattle.masks.specs.Tests.{someBelow-by}
 use Rattle.masks.specs.Bits.{bit, bit-of-zero}
 use Rattle.masks.specs.Masks.{maskOf, bit-maskOf}
+use Rattle.consistency.specs.Revising.{rulesOnly}
 use Rattle.sheet.specs.Sources.{Accepted}
 use Rattle.accepted.specs.Parts.{fieldsOf, countOf, rulesOf, firstOf, secondOf, ruleAllows}
 use Rattle.accepted.specs.Facts.{Facts, facts}
 use Rattle.accepted.specs.Order.{no-pair-twice}
 use Rattle.network.specs.Slots.{slot, slot-bound}
-use Rattle.network.specs.Tables.{slotRows, rowsOf, problemOf, Wired}
-use Rattle.network.specs.SheetProblem.{runs, runs-at, pairs, joins, allowsPair, sheetProblem, sheet-symmetric}
+use Rattle.network.specs.Tables.{slotRows, rowsOf, ruleProblem, Wired}
+use Rattle.network.specs.SheetProblem.{runs, runs-at, pairs, joins, allowsPair, sheetProblem, rules-symmetric}
 
 -- row v of rule r in the forward table, and row u in the turned one; 0 past the field's settings
 abbrev pub rowOf : List ℕ → ℕ → ℕ → ℕ
@@ -196,13 +197,15 @@ module _ (xs : List ℕ) (a : Accepted xs) where
             (λ q. or-r (runs xs f g (x .0)) (runs xs g f (x .0)) (and-l (runs xs g f (x .0)) (pairs xs g f u v (x .0)) q))
             (or-at (runs xs f g (x .0) && pairs xs f g v u (x .0)) (runs xs g f (x .0) && pairs xs g f u v (x .0)) (x .2)))) e))
 
-    -- The tables hold the sheet's problem.
-    pub tables-hold : problemOf (fieldsOf xs) joined forward turned ≡ sheetProblem xs
-    unfolding problemOf sheetProblem
+    -- The tables hold the sheet's rules over two fields.
+    pub tables-hold : ruleProblem (fieldsOf xs) joined forward turned ≡ rulesOnly (sheetProblem xs)
+    unfolding ruleProblem sheetProblem
     tables-hold = λ i. record {
       fields = fieldsOf xs;
       joined = λ f g. t .masks f g i;
       allowed = λ f g v u. same-allowed f g v u i;
+      sheet = [];
+      triples = [];
     }
 
     -- and are what the engines ask
@@ -212,5 +215,5 @@ module _ (xs : List ℕ) (a : Accepted xs) where
       forwards = t .forwards;
       turneds = t .turneds;
       ends = λ f g e. join-ends f g (sym (t .masks f g) ∙ e);
-      symmetric = rw tables-hold (sheet-symmetric xs);
+      symmetric = rw tables-hold (rules-symmetric xs);
     }

@@ -1,5 +1,6 @@
 pub mod Slots
 pub mod Tables
+pub mod TripleTable
 pub mod Stored
 pub mod Turned
 pub mod SheetProblem
@@ -8,4 +9,9 @@ pub mod RuleFields
 pub mod RuleRows
 pub mod Filling
 pub mod Hoods
+pub mod TripleLoop
+pub mod Linking
+pub mod Drafts
+pub mod Blocks
 pub mod Network
+pub mod TriplesFilled

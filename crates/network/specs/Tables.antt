@@ -1,7 +1,7 @@
 -- The tables of a problem, and the problem that tables hold. Assumes nothing.
 use mathlib.Core.Path.{_≡_, refl}
 use mathlib.Core.Bool.{Bool, true, false, _&&_, cond}
-use mathlib.Core.List.{List}
+use mathlib.Core.List.{List, []}
 use Prim.Native.Nat.{ℕ, _+_, _-_, _*_, _≤_, _<_}
 use native.Mathlib.Omega.{arith}
 use lib.Dec.{ltb}
@@ -62,12 +62,16 @@ rowsOf-length forward turned g f a b d h k = go (ltb g f) refl
     go true e = let s = slot-bound g f (ltb-true g f e) b in simp (length-take, length-drop) (omega arith)
     go false e = let s = slot-bound f g (let l = ltb-false g f e in omega arith) a in simp (length-take, length-drop) (omega arith)
 
--- The problem that the tables hold for n fields: `joined` has for each field the mask of the fields that a rule joins to it.
-unfoldable pub problemOf : ℕ → List ℕ → List ℕ → List ℕ → Problem
-problemOf n joined forward turned = record {
+-- The problem of the rules over two fields that the tables hold for n fields: `joined` has for each field the mask of the fields that a
+-- rule
+-- joins to it.
+unfoldable pub ruleProblem : ℕ → List ℕ → List ℕ → List ℕ → Problem
+ruleProblem n joined forward turned = record {
   fields = n;
   joined = λ f g. bit (getD joined f 0) g;
   allowed = λ f g v u. bit (getD joined f 0) g && bit (getD (rowsOf forward turned f g) v 0) u;
+  sheet = [];
+  triples = [];
 }
 
 -- What the engines ask of tables.
@@ -76,4 +80,4 @@ pub record Wired (n : ℕ) (joined forward turned : List ℕ) : Type 0 where
   pub forwards : tableWords ≤ length forward
   pub turneds : tableWords ≤ length turned
   pub ends : (f g : ℕ) → bit (getD joined f 0) g ≡ true → (f < n) × (g < n) × (f ≡ g → ⊥)
-  pub symmetric : Symmetric (problemOf n joined forward turned)
+  pub symmetric : Symmetric (ruleProblem n joined forward turned)

@@ -49,7 +49,7 @@ pub fn row<'a>(forward: &'a [u32], turned: &'a [u32], g: usize, f: usize) -> &'a
     &turned[at..end]
 }
 
-// Stores a word for each setting at a place.
+// Stores a word for each setting, or for each field, at a place.
 pub fn store(words: &mut [u32], base: usize, w: &[u32; SETTINGS])
     requires { ⌜ base + mostSettings ≤ length (now words) ⌝ }
     ensures { λ _. ⌜ Stored (now (words .entry)) base (wordsOf (now (w .entry))) mostSettings (now (words .exit)) ⌝ }

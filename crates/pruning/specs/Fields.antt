@@ -7,10 +7,10 @@ use Rattle.limits.specs.Limits.{mostFields}
 use Rattle.masks.specs.Bits.{Within, within-le}
 use Rattle.masks.specs.Masks.{maskOf-lt}
 use Rattle.consistency.specs.Problem.{allFields}
-use Rattle.network.specs.Tables.{problemOf}
+use Rattle.network.specs.Tables.{ruleProblem}
 
 -- a mask of the problem's fields is small
 pub fields-small : (n : ℕ) (joined forward turned : List ℕ) (W : ℕ) → n ≤ mostFields
-    → Within W (allFields (problemOf n joined forward turned)) → W < 2 ^ mostFields
-unfolding allFields problemOf
+    → Within W (allFields (ruleProblem n joined forward turned)) → W < 2 ^ mostFields
+unfolding allFields ruleProblem
 fields-small n joined forward turned W h w = lt-of-le-of-lt (within-le W _ w) (lt-of-lt-of-le (maskOf-lt n _) (pow-mono h))

@@ -3,7 +3,7 @@ use mathlib.Core.Path.{_≡_, sym, ap, ap₂, _∙_}
 use mathlib.Core.Logic.{⊎-elim}
 use mathlib.Core.Bool.{Bool, true, false, not, _&&_, and-true, and-false}
 use mathlib.Core.List.{List}
-use Prim.Native.Nat.{ℕ, _+_, _≤_, _<_, zero-le}
+use Prim.Native.Nat.{ℕ, _+_, _≤_, _<_}
 use native.Mathlib.Nat.{eq-or-lt-of-le}
 use native.Mathlib.Omega.{arith}
 use lib.Dec.{eqb, ltb}
@@ -28,11 +28,11 @@ pub record Pending (D Q L : List ℕ) (h t : ℕ) : Type 0 where
   pub rest : (j b : ℕ) → has Q j b ≡ true → has D j b ≡ false → (p : ℕ) × (h ≤ p) × (p < t) × (getD L p 0 ≡ numberOf j b)
 
 -- all that left Q waits
-pub pending-start : (Q L0 D L : List ℕ) (t : ℕ) → Moved Q L0 0 D L t → Pending D Q L 0 t
-pending-start Q L0 D L t m = record {
+pub pending-start : (Q L0 : List ℕ) (s : ℕ) (D L : List ℕ) (t : ℕ) → Moved Q L0 s D L t → Pending D Q L s t
+pending-start Q L0 s D L t m = record {
   kept = m .inside;
   waits = λ p j b h l k e.
-      let x = m .nothing-else p zero-le l in
+      let x = m .nothing-else p h l in
       let s = number-same j b (x .0) (x .1) k (x .2) (sym e ∙ x .3) in
       ap₂ (has Q) (s .0) (s .1) ∙ x .4;
   rest = m .enters;
@@ -63,7 +63,7 @@ module _ (D Q L : List ℕ) (h t : ℕ) (w : Pending D Q L h t) where
 
   -- the setting at the head is taken
   module _ (j b : ℕ) (l : h < t) (k : b < mostSettings) (e : getD L h 0 ≡ numberOf j b) (gone : has D j b ≡ false) (small : Small Q)
-      (once : (p q : ℕ) → p < t → q < t → getD L p 0 ≡ getD L q 0 → p ≡ q) where
+      (once : (p q : ℕ) → h ≤ p → p < t → h ≤ q → q < t → getD L p 0 ≡ getD L q 0 → p ≡ q) where
     pub taken-there : has Q j b ≡ true
     taken-there = w .waits h j b (omega arith) l k e
 
@@ -72,7 +72,7 @@ module _ (D Q L : List ℕ) (h t : ℕ) (w : Pending D Q L h t) where
     pending-take = record {
       kept = λ f v x. lose-by Q j b f v (w .kept f v x) (λ y z. never x (ap₂ (has D) y z ∙ gone));
       waits = λ p g u i c z d. lose-by Q j b g u (w .waits p g u (omega arith) c z d)
-          (λ x y. let s = once p h c l (d ∙ ap₂ numberOf x y ∙ sym e) in omega arith);
+          (λ x y. let s = once p h (omega arith) c (omega arith) l (d ∙ ap₂ numberOf x y ∙ sym e) in omega arith);
       rest = λ g u x y.
           let r = w .rest g u (lose-⊆ Q j b g u x) y in
           (r .0, later g u x (r .0) (r .1) (r .3), r .2, r .3);

@@ -3,7 +3,7 @@ use mathlib.Core.Path.{_≡_, refl, sym, ap, _∙_}
 use mathlib.Core.Logic.{_⊎_, inl, inr, ⊎-elim}
 use mathlib.Core.Bool.{Bool, true, false, not, _&&_, true≢false}
 use mathlib.Core.List.{List}
-use Prim.Native.Nat.{ℕ, _+_, _*_, _^_, _≤_, _<_, zero-le}
+use Prim.Native.Nat.{ℕ, _+_, _*_, _^_, _≤_, _<_}
 use native.Mathlib.Omega.{arith}
 use lib.Bits.{bitOr}
 use lib.Dec.{eqb, ltb}
@@ -17,10 +17,11 @@ use Rattle.masks.specs.Masks.{digit}
 use Rattle.masks.specs.Sets.{has, _⊆_, count}
 use Rattle.masks.specs.Settings.{lose, lose-⊆, length-lose, empty, empty-at, empty-by}
 use Rattle.counter.specs.Counts.{countAt, OnlyTowards, Lowered, other-count, only-towards}
-use Rattle.removal_list.specs.Count.{Small, count-most}
+use Rattle.removal_list.specs.Count.{Small}
 use Rattle.removal_list.specs.Moved.{numberOf, Moved, moved-none, moved-then}
 use Rattle.consistency.specs.Problem.{Problem, In}
 use Rattle.consistency.specs.Closing.{closing, closing-is, closing-self, closing-between}
+use Rattle.consistency.specs.Revising.{NoTriples}
 use Rattle.consistency.specs.Passing.{NoneEmpty, noneEmpty, noneEmpty-at, noneEmpty-by}
 use Rattle.pruning.specs.Shrunk.{or-not, or-within, one-within, small-⊆, Shrunk, shrunk-none, shrunk-then}
 use Rattle.pruning.specs.Supports.{supports, Counts, Supports, supports-less, Positive, positive-closed, partner-counted}
@@ -48,7 +49,7 @@ module _ (P : Problem) (W : ℕ) (S : List ℕ) where
       where
         stays : In P W f × (P .joined f j ≡ true) → has none f a ≡ false
         stays y =
-            let g = closing-is P W D1 .good f a e (y .0) j x (y .1) in
+            let g = closing-is P W D1 .good f a e (y .0) .rules j x (y .1) in
             alone f a (g .0) (y .0) (y .1) (k f a e) (k j (g .0) (g .1)) (g .2)
 
     -- where one of them had nothing else, the closing has an empty field
@@ -59,20 +60,22 @@ module _ (P : Problem) (W : ℕ) (S : List ℕ) where
         never (empty-by (closing P W D1) (y .0) (λ v i. never (closing-in-dropped D1 k (y .0) v i) (empty-at _ (y .0) v (y .2))))
         (noneEmpty-at P W (closing P W D1) z (y .0) (near-at (y .0) (y .1) .0)))
 
-  -- ---- what pruneAC is given: the list holds what left a set of which the counts are
+  -- ---- what pruneAC is given: the list holds, from s on, what left a set of which the counts are
 
-  pub record Listed (D L : List ℕ) (t : ℕ) (C : List ℕ) : Type 0 where
+  pub record Listed (s : ℕ) (D L : List ℕ) (t : ℕ) (C : List ℕ) : Type 0 where
     pub whole : List ℕ
     pub before : List ℕ
     pub long : length whole ≡ mostFields
     pub small : Small whole
     pub places : length before ≡ listPlaces
-    pub moved : Moved whole before 0 D L t
+    pub room : s + count whole ≤ listPlaces
+    pub moved : Moved whole before s D L t
     pub counts : Counts (P .fields) S C whole
     pub fields : (j b : ℕ) → has whole j b ≡ true → has D j b ≡ false → bit W j ≡ true
 
-  pub record PruneAsks (D L : List ℕ) (t : ℕ) (C : List ℕ) : Type 0 where
-    pub listed : Listed D L t C
+  pub record PruneAsks (s : ℕ) (D L : List ℕ) (t : ℕ) (C : List ℕ) : Type 0 where
+    pub alone : NoTriples P
+    pub listed : Listed s D L t C
     pub supported : Supports P S D
     pub positive : Positive P W C D
     pub full : NoneEmpty P W D
@@ -92,11 +95,12 @@ module _ (P : Problem) (W : ℕ) (S : List ℕ) where
 
     -- ---- between two turns: the settings before h were taken
 
-    pub record Pruning (h changed spent : ℕ) (D L : List ℕ) (t : ℕ) (C : List ℕ) : Type 0 where
+    pub record Pruning (s h changed spent : ℕ) (D L : List ℕ) (t : ℕ) (C : List ℕ) : Type 0 where
       pub counted : List ℕ
       pub sized : length counted ≡ mostFields
       pub small : Small counted
       pub pending : Pending D counted L h t
+      pub from : s ≤ h
       pub low : h ≤ t
       pub moved : Moved D1 L1 t1 D L t
       pub counts : Counts (P .fields) S C counted
@@ -108,17 +112,18 @@ module _ (P : Problem) (W : ℕ) (S : List ℕ) where
       pub spends : Within spent W
       pub frame : OnlySpent spent C1 C
 
-    module _ (a : PruneAsks D1 L1 t1 C1) where
-      abbrev l : Listed D1 L1 t1 C1
+    module _ (s : ℕ) (a : PruneAsks s D1 L1 t1 C1) where
+      abbrev l : Listed s D1 L1 t1 C1
       l = a .listed
 
-      pub pruning-start : Pruning 0 0 0 D1 L1 t1 C1
+      pub pruning-start : Pruning s s 0 0 D1 L1 t1 C1
       pruning-start = record {
         counted = l .whole;
         sized = l .long;
         small = l .small;
-        pending = pending-start (l .whole) (l .before) D1 L1 t1 (l .moved);
-        low = zero-le;
+        pending = pending-start (l .whole) (l .before) s D1 L1 t1 (l .moved);
+        from = omega arith;
+        low = l .moved .more;
         moved = moved-none D1 L1 t1;
         counts = l .counts;
         positive = a .positive;
@@ -130,15 +135,14 @@ module _ (P : Problem) (W : ℕ) (S : List ℕ) where
         frame = record { same = λ j e q x y. refl };
       }
 
-      module _ (h changed spent : ℕ) (D L : List ℕ) (t : ℕ) (C : List ℕ) (p : Pruning h changed spent D L t C) where
-        all-moved : Moved (l .whole) (l .before) 0 D L t
+      module _ (h changed spent : ℕ) (D L : List ℕ) (t : ℕ) (C : List ℕ) (p : Pruning s h changed spent D L t C) where
+        all-moved : Moved (l .whole) (l .before) s D L t
         all-moved = moved-then (l .moved) (p .moved)
 
         -- there is a place for each setting, since none enters twice
         pub places-enough : (length L ≡ listPlaces) × (t + count D ≤ listPlaces)
         places-enough =
-            let r = all-moved .room in let m = count-most (l .whole) (l .small) in let n = l .long in
-            (all-moved .long ∙ l .places, omega arith)
+            let r = all-moved .room in let m = l .room in (all-moved .long ∙ l .places, omega arith)
 
         pub set-sized : length D ≡ mostFields
         set-sized = all-moved .sized ∙ l .long
@@ -153,7 +157,7 @@ module _ (P : Problem) (W : ℕ) (S : List ℕ) where
         pruning-end e =
             let q = pending-done D (p .counted) L h t (p .pending) e (set-sized ∙ sym (p .sized)) in
             let c : Counts (P .fields) S C D = rw q (p .counts) in
-            let shut = positive-closed P S C D supported-now W c (p .positive) in
+            let shut = positive-closed P S C D supported-now (a .alone) W c (p .positive) in
             let made : D ≡ closing P W D1 = sym (closing-self P W D shut)
             ∙ closing-between P W D1 D (p .moved .sized) (p .closing-kept) (p .moved .inside) in
             record {
@@ -176,7 +180,7 @@ module _ (P : Problem) (W : ℕ) (S : List ℕ) where
           pub head-setting : (j : ℕ) × (b : ℕ) × (b < mostSettings) × (getD L h 0 ≡ numberOf j b) × (has D j b ≡ false) × (In P W j)
           unfolding has
           head-setting =
-              let x = all-moved .nothing-else h zero-le k in
+              let x = all-moved .nothing-else h (p .from) k in
               let w = in-W (x .0) (x .1) (x .4) (x .5) in
               (x .0, x .1, x .2, x .3, x .5, (a .on (x .0) w, w))
             where
@@ -189,16 +193,16 @@ module _ (P : Problem) (W : ℕ) (S : List ℕ) where
         -- ---- a turn: (j, b) is taken, its support set's counts are one less, and what has none is dropped
 
         module _ (k : h < t) (j b : ℕ) (small-b : b < mostSettings) (e : getD L h 0 ≡ numberOf j b) (gone : has D j b ≡ false)
-            (x : In P W j) (s : List ℕ) (set-of : (i u : ℕ) → i < P .fields → has s i u ≡ supports S j b i u)
-            (wide : ℕ) (w : P .fields ≤ wide) (most : wide ≤ mostFields) (none R : List ℕ) (r : Lowered C j s wide none R) where
+            (x : In P W j) (set : List ℕ) (set-of : (i u : ℕ) → i < P .fields → has set i u ≡ supports S j b i u)
+            (wide : ℕ) (w : P .fields ≤ wide) (most : wide ≤ mostFields) (none R : List ℕ) (r : Lowered C j set wide none R) where
           towards : OnlyTowards j C R
           towards = only-towards C R j wide most (r .there)
 
           abbrev rest : List ℕ
           rest = lose (p .counted) j b
 
-          once : (m q : ℕ) → m < t → q < t → getD L m 0 ≡ getD L q 0 → m ≡ q
-          once m q y z i = all-moved .once m q zero-le y zero-le z i
+          once : (m q : ℕ) → h ≤ m → m < t → h ≤ q → q < t → getD L m 0 ≡ getD L q 0 → m ≡ q
+          once m q u y w z i = let f = p .from in all-moved .once m q (omega arith) y (omega arith) z i
 
           there : has (p .counted) j b ≡ true
           there = taken-there D (p .counted) L h t (p .pending) j b k small-b e gone (p .small) once
@@ -207,10 +211,11 @@ module _ (P : Problem) (W : ℕ) (S : List ℕ) where
           taken = pending-take D (p .counted) L h t (p .pending) j b k small-b e gone (p .small) once
 
           counts-now : Counts (P .fields) S R rest
-          counts-now = counts-take (P .fields) S C (p .counted) (p .counts) j b (x .0) small-b there (a .few) s set-of wide w most none R r
+          counts-now = counts-take (P .fields) S C (p .counted) (p .counts) j b (x .0) small-b there (a .few)
+              set set-of wide w most none R r
 
           zero-none : (i u : ℕ) → i < P .fields → has none i u ≡ true → countAt R j i u ≡ 0
-          zero-none i u y z = eqb-true (countAt R j i u) 0 (and-r (has s i u) _ (sym (r .zero i u (omega arith)) ∙ z))
+          zero-none i u y z = eqb-true (countAt R j i u) 0 (and-r (has set i u) _ (sym (r .zero i u (omega arith)) ∙ z))
 
           spends-now : Within (bitOr spent (2 ^ j)) W
           spends-now = or-within spent (2 ^ j) W (p .spends) (one-within W j (x .1))
@@ -271,20 +276,22 @@ module _ (P : Problem) (W : ℕ) (S : List ℕ) where
                 here : P .joined i j ≡ true → 0 < countAt R j i v
                 here c =
                     let o = left-out (near-by i y c) in
-                    let f = count-lowered _ S C _ (p .counts) j b (x .0) small-b there (a .few) s set-of wide w most none R r i v (y .0) in
+                    let f = count-lowered _ S C _ (p .counts) j b (x .0) small-b there (a .few) set set-of wide w most none R r i v
+                    (y .0) in
                     let q = p .positive i j v y x c there-still in
                     ⊎-elim
                     (λ d. ⊎-elim (λ t. absurd (never (r .zero i v (let c = y .0 in omega arith) ∙ and-by _ _ d t) o))
                     (λ t. let e = eqb-false (countAt R j i v) 0 t in omega arith) (bool-cases (eqb (countAt R j i v) 0)))
-                    (λ d. let e = ap digit d in omega arith) (bool-cases (has s i v))
+                    (λ d. let e = ap digit d in omega arith) (bool-cases (has set i v))
 
             pub turn-next : Dropped near none D L t false lost Q K u
-                → Pruning (h + 1) (bitOr changed lost) (bitOr spent (2 ^ j)) Q K u R
+                → Pruning s (h + 1) (bitOr changed lost) (bitOr spent (2 ^ j)) Q K u R
             turn-next d = let made = d .made refl in record {
               counted = rest;
               sized = length-lose (p .counted) j b ∙ p .sized;
               small = small-⊆ (p .counted) rest (lose-⊆ (p .counted) j b) (p .small);
               pending = pending-moved D rest L (h + 1) t taken Q K u (omega arith) (d .moved);
+              from = let y = p .from in omega arith;
               low = let y = d .moved .more in omega arith;
               moved = moved-then (p .moved) (d .moved);
               counts = counts-now;

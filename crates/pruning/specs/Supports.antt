@@ -13,6 +13,7 @@ use Rattle.removal_list.specs.Count.{Small}
 use Rattle.removal_list.specs.Moved.{numberOf}
 use Rattle.consistency.specs.Problem.{Problem, In}
 use Rattle.consistency.specs.Closing.{Closed}
+use Rattle.consistency.specs.Revising.{NoTriples}
 use Rattle.pruning.specs.Counting.{howMany, countBelow-cong, countBelow-by, countBelow-at}
 
 -- (i, a) is in the support set of (j, b)
@@ -58,11 +59,14 @@ module _ (P : Problem) where
         (λ x. let y = and-l (has D j b) _ x in and-by _ _ y (s .complete j b i a k l y e r (and-r (has D j b) _ x))))
 
     -- a count that is not 0 shows a partner
-    pub positive-closed : (W : ℕ) → Counts (P .fields) S C D → Positive W C D → Closed P W D
-    positive-closed W c p i a e w j x r =
-        let l = p i j a w x r e in
-        let k = countBelow-at mostSettings (λ b. has D j b && supports S j b i a) (rw (c .each j i a (x .0) (w .0)) at l) in
-        (k .0, and-l _ _ (k .2), s .sound j (k .0) i a (x .0) (k .1) (w .0) (and-r (has D j (k .0)) _ (k .2)))
+    pub positive-closed : NoTriples P → (W : ℕ) → Counts (P .fields) S C D → Positive W C D → Closed P W D
+    positive-closed alone W c p i a e w = record {
+      rules = λ j x r.
+          let l = p i j a w x r e in
+          let k = countBelow-at mostSettings (λ b. has D j b && supports S j b i a) (rw (c .each j i a (x .0) (w .0)) at l) in
+          (k .0, and-l _ _ (k .2), s .sound j (k .0) i a (x .0) (k .1) (w .0) (and-r (has D j (k .0)) _ (k .2)));
+      triples = λ t l. absurd (alone t l);
+    }
 
     -- in a larger set a partner shows that a count is not 0
     pub partner-counted : (Q : List ℕ) → Counts (P .fields) S C Q → D ⊆ Q → Small D → (i j a b : ℕ) → i < P .fields → j < P .fields
@@ -75,5 +79,5 @@ module _ (P : Problem) where
 
     pub closed-positive : (W : ℕ) → Counts (P .fields) S C D → Small D → Closed P W D → Positive W C D
     closed-positive W c small shut i j a w x r e =
-        let p = shut i a e w j x r in
+        let p = shut i a e w .rules j x r in
         partner-counted D c (λ f v z. z) small i j a (p .0) (w .0) (x .0) r e (p .1) (p .2)

@@ -4,7 +4,7 @@ ghost use mathlib.Core.Path.{_≡_};
 ghost use Prim.Native.Nat.{_≤_, _<_};
 ghost use lib.ListN.{length};
 ghost use Rattle.limits.specs.Limits.{mostFields, counterWords, listPlaces};
-ghost use Rattle.network.specs.Tables.{problemOf, Wired};
+ghost use Rattle.network.specs.Tables.{ruleProblem, Wired};
 ghost use Rattle.pruning.specs.Prune.{PruneAsks, Pruned};
 ghost use Rattle.pruning.specs.PruneTurn.{SetLowered, EnoughLowered};
 use super::drop::drop;
@@ -71,8 +71,8 @@ fn lower_fields(
     lower_set(d, none, counter, support, x, j, FIELDS)
 }
 
-// Drops settings of the fields of `within` only. It ends where one of them has nothing left. The tables are there for the contract, which
-// speaks of the problem of n fields that they hold.
+// The places of the list before `start` are of settings that were taken before. It drops settings of the fields of `within` only, and ends
+// where one of them has nothing left. The tables are there for the contract, which speaks of the problem of n fields that they hold.
 pub fn prune_ac<'a>(
     d: &mut [u32; FIELDS],
     n: usize,
@@ -80,21 +80,23 @@ pub fn prune_ac<'a>(
     counter: &mut [u32; COUNTER_WORDS],
     support: &[u32; SUPPORT_WORDS],
     list: &mut [u32; LIST_PLACES],
+    start: usize,
     tail: usize,
     joined: &[u32; FIELDS],
     forward: &'a [u32],
     turned: &'a [u32],
 ) -> AfterPrune
     requires { ⌜ Wired n (now joined) (now forward) (now turned)
-        × PruneAsks (problemOf n (now joined) (now forward) (now turned)) within (now support) (now d) (now list) tail (now counter) ⌝ }
-    ensures { λ r. ⌜ Pruned (problemOf n (now (joined .entry)) (now (forward .entry)) (now (turned .entry))) within (now (support .entry))
+        × PruneAsks (ruleProblem n (now joined) (now forward) (now turned)) within (now support) start (now d) (now list) tail
+        (now counter) ⌝ }
+    ensures { λ r. ⌜ Pruned (ruleProblem n (now (joined .entry)) (now (forward .entry)) (now (turned .entry))) within (now (support .entry))
         (now (d .entry)) (now (list .entry)) tail (now (counter .entry)) (r .wiped) (r .changed) (r .spent)
         (now (d .exit)) (now (list .exit)) (r .tail) (now (counter .exit)) ⌝ }
 {
     let mut changed: u32 = 0;
     let mut spent: u32 = 0;
     let mut t = tail;
-    let mut head: usize = 0;
+    let mut head = start;
     let mut none = [0u32; FIELDS];
     // 1
     while head < t {

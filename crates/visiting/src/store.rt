@@ -7,7 +7,7 @@ ghost use lib.ListN.{length, getD};
 ghost use Rattle.limits.specs.Limits.{mostFields, mostSettings, memoryWords};
 ghost use Rattle.masks.specs.Sets.{has, _⊆_};
 ghost use Rattle.masks.specs.Restrict.{restrict};
-ghost use Rattle.network.specs.Tables.{problemOf};
+ghost use Rattle.network.specs.TripleTable.{problemOf};
 ghost use Rattle.network.specs.Stored.{Stored, wordsOf};
 ghost use Rattle.closing.specs.Asks.{Masks, LiveAsks, Counted};
 ghost use Rattle.visiting.specs.Memory.{placeOf, recall};
@@ -90,14 +90,18 @@ pub fn check<'a, 'n>(
     joined: &'n [u32; FIELDS],
     forward: &'a [u32],
     turned: &'a [u32],
+    triples: &[u32],
 ) -> bool
-    requires { ⌜ LiveAsks n (now joined) (now forward) (now turned) (now m)
-        × Store (problemOf n (now joined) (now forward) (now turned)) (now hood) (now m) (now known) (now memory) ⌝ }
-    requires { ⌜ HoodAsks (problemOf n (now joined) (now forward) (now turned)) (now hood) f × (has (now m) f v ≡ true) ⌝ }
-    requires { ⌜ Counted (problemOf n (now joined) (now forward) (now turned)) (now support) (now counter) (now copy) (now list) (now m) ⌝ }
-    ensures { λ r. ⌜ Checked (problemOf n (now (joined .entry)) (now (forward .entry)) (now (turned .entry))) (now (hood .entry))
+    requires { ⌜ LiveAsks n (now joined) (now forward) (now turned) (now triples) (now m)
+        × Store (problemOf n (now joined) (now forward) (now turned) (now triples)) (now hood) (now m) (now known) (now memory) ⌝ }
+    requires { ⌜ HoodAsks (problemOf n (now joined) (now forward) (now turned) (now triples)) (now hood) f × (has (now m) f v ≡ true) ⌝ }
+    requires { ⌜ Counted (problemOf n (now joined) (now forward) (now turned) (now triples)) (now support) (now counter) (now copy)
+        (now list) (now m) ⌝ }
+    ensures { λ r. ⌜ Checked (problemOf n (now (joined .entry)) (now (forward .entry)) (now (turned .entry)) (now (triples .entry)))
+        (now (hood .entry))
         (now (m .entry)) remembers f v r (now (known .exit)) (now (memory .exit))
-        × Counted (problemOf n (now (joined .entry)) (now (forward .entry)) (now (turned .entry))) (now (support .entry))
+        × Counted (problemOf n (now (joined .entry)) (now (forward .entry)) (now (turned .entry)) (now (triples .entry)))
+        (now (support .entry))
         (now (counter .entry)) (now (copy .exit)) (now (list .exit)) (now (m .entry)) ⌝ }
 {
     if remembers {
@@ -119,6 +123,7 @@ pub fn check<'a, 'n>(
         joined,
         forward,
         turned,
+        triples,
     ) {
         return false;
     }

@@ -32,16 +32,20 @@ pub fn visit<'a>(
     list: &mut [u32; LIST_PLACES],
     forward: &'a [u32],
     turned: &'a [u32],
+    triples: &[u32],
 ) -> Narrowed
-    requires { ⌜ LiveAsks (net .fields) (net .joined) (now forward) (now turned) (now m)
-        × Store (problemIn net (now forward) (now turned)) (net .hood) (now m) (now known) (now memory) ⌝ }
-    requires { ⌜ (f < net .fields) × HoodAsks (problemIn net (now forward) (now turned)) (net .hood) f ⌝ }
-    requires { ⌜ Counted (problemIn net (now forward) (now turned)) (now support) (now counter) (now copy) (now list) (now m) ⌝ }
-    ensures { λ r. ⌜ Visited (problemIn net (now (forward .entry)) (now (turned .entry))) (getD (net .hood) f 0) f
+    requires { ⌜ LiveAsks (net .fields) (net .joined) (now forward) (now turned) (now triples) (now m)
+        × Store (problemIn net (now forward) (now turned) (now triples)) (net .hood) (now m) (now known) (now memory) ⌝ }
+    requires { ⌜ (f < net .fields) × HoodAsks (problemIn net (now forward) (now turned) (now triples)) (net .hood) f ⌝ }
+    requires { ⌜ Counted (problemIn net (now forward) (now turned) (now triples)) (now support) (now counter) (now copy) (now list)
+        (now m) ⌝ }
+    ensures { λ r. ⌜ Visited (problemIn net (now (forward .entry)) (now (turned .entry)) (now (triples .entry))) (getD (net .hood) f 0) f
         (now (m .entry)) (r .wiped) (r .changed) (now (m .exit))
-        × (r .wiped ≡ false → Store (problemIn net (now (forward .entry)) (now (turned .entry))) (net .hood) (now (m .exit))
+        × (r .wiped ≡ false → Store (problemIn net (now (forward .entry)) (now (turned .entry)) (now (triples .entry))) (net .hood)
+        (now (m .exit))
         (now (known .exit)) (now (memory .exit)))
-        × (r .wiped ≡ false → Counted (problemIn net (now (forward .entry)) (now (turned .entry))) (now (support .entry))
+        × (r .wiped ≡ false → Counted (problemIn net (now (forward .entry)) (now (turned .entry)) (now (triples .entry)))
+        (now (support .entry))
         (now (counter .exit)) (now (copy .exit)) (now (list .exit)) (now (m .exit))) ⌝ }
 {
     let n = net.fields;
@@ -66,6 +70,7 @@ pub fn visit<'a>(
             &net.joined,
             forward,
             turned,
+            triples,
         ) {
             let r = remove(
                 m,
@@ -79,6 +84,7 @@ pub fn visit<'a>(
                 &net.joined,
                 forward,
                 turned,
+                triples,
             );
             if r.wiped {
                 return Narrowed {

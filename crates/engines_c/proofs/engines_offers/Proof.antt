@@ -2,7 +2,7 @@
 use mathlib.Core.Path.{sym}
 use lib.Seq.{length-take-le}
 use borrow.Author.Needs.{needs}
-use Rattle.engines.specs.Answers.{run-asks, answers}
+use Rattle.engines.specs.Offering.{asks-on}
 use Rattle.engines_c.proofs.engines_offers.Statement.{statement}
 use Rattle.engines_c.proofs.engines_offers.Tie as tie
 
@@ -15,19 +15,11 @@ slice-aggregate-build c = sym (length-take-le _ _ (c .before .before .before .be
 build-requires : tie.Need-build-requires
 build-requires c κs = search needs
 
-forward-requires : tie.Need-forward-requires
-forward-requires c κs = search needs
-
-turned-requires : tie.Need-turned-requires
-turned-requires c κs = search needs
-
-run-requires : tie.Need-run-requires
-run-requires c κs =
-    let turned = c .before .before in
-    let built = turned .before .before .before .before .before in
+run-rules-requires : tie.Need-run-rules-requires
+run-rules-requires c κs =
+    let built = c .before .before .before .before .before .before .before in
     let p = built .before .before .before .before .before .before .pre in
-    rw (turned .before .forward .ensures, turned .turned .ensures)
-    (run-asks _ _ _ _ (built .build .ensures) _ _ _ (p .visits) (p .selected-fields) (p .masks) (p .on), p .room)
+    (asks-on _ _ _ _ _ _ _ _ p (built .build .kept .1 .0), built .build .ensures, c .before .before .before .if1 .taken)
 
 same-length : tie.Need-same-length
 same-length c = search needs
@@ -36,11 +28,22 @@ same-length-2 : tie.Need-same-length-2
 same-length-2 c = search needs
 
 returns : tie.Need-returns
-returns c =
-    let turned = c .before .before .before .before .before in
-    let built = turned .before .before .before .before .before in
-    let answer = rw (turned .before .forward .ensures, turned .turned .ensures) at (c .before .before .run .ensures) in
-    answers _ _ _ _ (built .build .ensures) _ _ _ _ answer
+returns c = search needs
+
+run-triples-requires : tie.Need-run-triples-requires
+run-triples-requires c κs =
+    let built = c .before .before .before .before .before .before .before in
+    let p = built .before .before .before .before .before .before .pre in
+    (asks-on _ _ _ _ _ _ _ _ p (built .build .kept .1 .0), built .build .ensures)
+
+same-length-3 : tie.Need-same-length-3
+same-length-3 c = search needs
+
+same-length-4 : tie.Need-same-length-4
+same-length-4 c = search needs
+
+returns-2 : tie.Need-returns-2
+returns-2 c = search needs
 
 pub engines-offers-spec : {M : Type 1} → statement M
 engines-offers-spec =
@@ -49,9 +52,11 @@ engines-offers-spec =
     slice-reshare-prefix-build
     slice-aggregate-build
     build-requires
-    forward-requires
-    turned-requires
-    run-requires
+    run-rules-requires
     same-length
     same-length-2
-    returns)
+    returns
+    run-triples-requires
+    same-length-3
+    same-length-4
+    returns-2)

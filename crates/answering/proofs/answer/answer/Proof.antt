@@ -14,7 +14,7 @@ use Rattle.session.specs.View.{view, Sized}
 use Rattle.session.specs.Steps.{stepped, StepAsks}
 use Rattle.answering.specs.Answer.{Spaces, spaces}
 use Rattle.answering.specs.Intake.{TakenIn}
-use Rattle.answering.specs.Settle.{Prepared}
+use Rattle.answering.specs.Settle.{Built}
 use Rattle.answering.specs.Answering.{shortBy, Roomy, roomy, answers-short, answers-sheet, answers-judged, takes-step}
 use Rattle.answering.specs.Answering.{is-order, selects, answers-wiped, answers-accepted}
 use borrow.Author.Needs.{needs}
@@ -111,15 +111,20 @@ selecting c =
 abbrev judgedAt : tie.After-build → tie.Else3
 judgedAt c = c .before .before .before
 
-prepared : (c : tie.After-build) → let x = read (judgedAt c) in
-    Prepared (numbers (ofBytes (sheet x))) (taking x .take-in .result .outline) (c .build .result) (c .build .last .1 .0)
-prepared c =
+built : (c : tie.After-build) → let x = read (judgedAt c) in
+    let r = taking x .take-in in
+    Built (take (r .result .length) (r .last .1 .0)) (r .result .outline) (c .build .result) (c .build .last .1 .0)
+built c =
     let x = read (judgedAt c) in
     record {
-      accepted = bytes-accepted (sheet x) (unrefused x);
-      outline = taken x .outline (x .if2 .left);
-      network = rw (taken x .front (x .if2 .left)) at (c .build .ensures);
+      accepted = front-accepted x;
+      outline = rw (taken x .front (x .if2 .left)) (taken x .outline (x .if2 .left));
+      network = c .build .ensures;
     }
+
+-- the sheet's numbers are those at the front of the memory
+front-is : (x : tie.Else2) → let r = taking x .take-in in take (r .result .length) (r .last .1 .0) ≡ numbers (ofBytes (sheet x))
+front-is x = taken x .front (x .if2 .left)
 
 -- ---- the needs
 too-short-requires : tie.Need-too-short-requires
@@ -170,20 +175,22 @@ build-requires c κs = let x = c .before .before .before .before .before in (fro
 step-requires : tie.Need-step-requires
 step-requires c κs = steps (c .before .before .before .before .before)
 
-settle-requires : tie.Need-settle-requires
-settle-requires c κs =
+settle-sheet-requires : tie.Need-settle-sheet-requires
+settle-sheet-requires c κs =
     let b = c .before .before .before .before .before .before in
     let a = judgedAt b in
     let x = read a in
     let r = room (roomed x) in
     record {
-      sheet = numbers (ofBytes (sheet x));
-      prepared = prepared b;
-      ordered = ordered a;
-      selects = rw (c .before .before .before .step .ensures) (selecting a);
-      offers-room = r .offers-room;
-      rows-room = rw (b .build .kept .1 .0) (r .rows-room);
-      memory-room = rw (taking x .take-in .kept .1 .0) (r .memory-room);
+      built = built b;
+      ends = taken x .ends (x .if2 .left);
+      enough = record {
+        ordered = ordered a;
+        selects = rw (c .before .before .before .step .ensures) (selecting a);
+        offers-room = r .offers-room;
+        rows-room = rw (b .build .kept .1 .0) (r .rows-room);
+        memory-room = rw (taking x .take-in .kept .1 .0) (r .memory-room);
+      };
     }
 
 same-length-3 : tie.Need-same-length-3
@@ -196,7 +203,7 @@ same-length-5 : tie.Need-same-length-5
 same-length-5 c =
     let d = c .before .before .before .before .before in
     let b = d .before .before .before .before .before .before .before in
-    d .settle .kept .1 .1 .1 .1 .1 .1 .1 .0 ∙ taking (read (judgedAt b)) .take-in .kept .1 .0
+    d .settle-sheet .kept .1 .1 .1 .1 .1 .1 .1 .1 .0 ∙ taking (read (judgedAt b)) .take-in .kept .1 .0
 
 returns-4 : tie.Need-returns-4
 returns-4 c =
@@ -207,7 +214,7 @@ returns-4 c =
     let x = read a in
     let y = roomed x in
     answers-wiped _ _ (sized (start y)) _ _ _ (lent (start y)) (short y) (unrefused x) (no-cause a) _ (e .step .ensures) _ _
-    (d .settle .ensures _ (prepared b)) (c .if4 .taken)
+    (rw (front-is x) at (d .settle-sheet .ensures)) (c .if4 .taken)
 
 same-length-6 : tie.Need-same-length-6
 same-length-6 c = search needs
@@ -219,7 +226,7 @@ same-length-8 : tie.Need-same-length-8
 same-length-8 c =
     let d = c .before .before .before .before .before in
     let b = d .before .before .before .before .before .before .before in
-    d .settle .kept .1 .1 .1 .1 .1 .1 .1 .0 ∙ taking (read (judgedAt b)) .take-in .kept .1 .0
+    d .settle-sheet .kept .1 .1 .1 .1 .1 .1 .1 .1 .0 ∙ taking (read (judgedAt b)) .take-in .kept .1 .0
 
 returns-5 : tie.Need-returns-5
 returns-5 c =
@@ -230,7 +237,7 @@ returns-5 c =
     let x = read a in
     let y = roomed x in
     answers-accepted _ _ (sized (start y)) _ _ _ (lent (start y)) (short y) (unrefused x) (no-cause a) _ (e .step .ensures) _ _
-    (d .settle .ensures _ (prepared b)) (c .if4 .left)
+    (rw (front-is x) at (d .settle-sheet .ensures)) (c .if4 .left)
 
 pub answer-spec : {M : Type 1} → statement M
 answer-spec =
@@ -248,7 +255,7 @@ answer-spec =
     slice-aggregate-build
     build-requires
     step-requires
-    settle-requires
+    settle-sheet-requires
     same-length-3
     same-length-4
     same-length-5

@@ -18,8 +18,8 @@ run-requires c κs =
     let t = c .before .before .turned .ensures in
     let f = c .before .before .before .forward .ensures in
     let m = c .before .before .before .before .start .ensures in
-    let s = c .before .before .before .before .before .before .before .before .before in
-    (rw (f, t) (settle-asks _ _ _ _ _ _ _ (s .pre) _ _ m), s .pre .memory-room)
+    let s = c .before .before .before .before .before .before .before .before .before .before in
+    (rw (f, t) (settle-asks _ _ _ _ _ _ _ _ (s .pre) _ _ m), s .pre .enough .memory-room)
 
 same-length : tie.Need-same-length
 same-length c = search needs
@@ -31,13 +31,13 @@ returns c =
     let t = ran .before .before .before .turned .ensures in
     let f = ran .before .before .before .before .forward .ensures in
     let m = ran .before .before .before .before .before .start .ensures in
-    let s = ran .before .before .before .before .before .before .before .before .before .before in
-    λ xs p. settled-wiped xs _ _ _ p (view (s .args .session)) _ _ _ _ m (rw (f, t) at (ran .run .ensures)) (c .if1 .taken)
+    let s = ran .before .before .before .before .before .before .before .before .before .before .before in
+    λ xs p. settled-wiped xs _ _ _ _ p (view (s .args .session)) _ _ _ _ m (rw (f, t) at (ran .run .ensures)) (c .if1 .taken)
 
 put-requires : tie.Need-put-requires
 put-requires c κs =
-    let s = c .before .before .before .before .before .before .before .before .before .before .before .before .before .before in
-    (fields-few _ _ _ _ _ _ _ (s .pre), s .pre .offers-room)
+    let s = c .before .before .before .before .before .before .before .before .before .before .before .before .before .before .before in
+    (fields-few _ _ _ _ _ _ _ _ (s .pre), s .pre .enough .offers-room)
 
 same-length-2 : tie.Need-same-length-2
 same-length-2 c = search needs
@@ -53,8 +53,8 @@ returns-2 c =
     let t = ran .before .before .before .turned .ensures in
     let f = ran .before .before .before .before .forward .ensures in
     let m = ran .before .before .before .before .before .start .ensures in
-    let s = ran .before .before .before .before .before .before .before .before .before .before in
-    λ xs p. settled-offers xs _ _ _ p (view (s .args .session)) _ _ _ _ m (rw (f, t) at (ran .run .ensures)) (live .if1 .left) _
+    let s = ran .before .before .before .before .before .before .before .before .before .before .before in
+    λ xs p. settled-offers xs _ _ _ _ p (view (s .args .session)) _ _ _ _ m (rw (f, t) at (ran .run .ensures)) (live .if1 .left) _
     (c .before .before .put .ensures)
 
 pub settle-spec : {M : Type 1} → statement M

@@ -6,7 +6,7 @@ use Rattle.limits.specs.Limits.{mostFields}
 use Rattle.masks.specs.Bits.{bit, bit-of-zero}
 use Rattle.masks.specs.Sets.{count}
 use Rattle.network.specs.Network.{problemIn}
-use Rattle.pruning.specs.Fields.{fields-small}
+use Rattle.closing.specs.Fields.{fields-small}
 use Rattle.closing.specs.Asks.{Counted}
 use Rattle.visiting.specs.Store.{Store, store-start}
 use Rattle.engines.specs.Engine.{kept-wiped, begun-engine, engine-none, engine-done}
@@ -16,17 +16,19 @@ use Rattle.engines.proofs.queue.queued.Statement.{statement}
 use Rattle.engines.proofs.queue.queued.Tie as tie
 
 abbrev Inv-loop : tie.InvT-loop
-Inv-loop m₀ memory₀ order selected net counter₀ copy₀ support list₀ forward turned known₀ queue₀ m memory counter copy list known queue =
-    Turning (problemIn net forward turned) order (net .hood) selected m₀ queue m
-    × Store (problemIn net forward turned) (net .hood) m known memory × (length memory ≡ length memory₀)
-    × Counted (problemIn net forward turned) support counter copy list m
+Inv-loop m₀ memory₀ order selected net counter₀ copy₀ support list₀ forward turned triples known₀ queue₀ m memory counter copy list known
+    queue =
+    Turning (problemIn net forward turned triples) order (net .hood) selected m₀ queue m
+    × Store (problemIn net forward turned triples) (net .hood) m known memory × (length memory ≡ length memory₀)
+    × Counted (problemIn net forward turned triples) support counter copy list m
 
 abbrev μ-loop : tie.MeasureT-loop
-μ-loop m₀ memory₀ order selected net counter₀ copy₀ support list₀ forward turned known₀ queue₀ m memory counter copy list known queue =
+μ-loop m₀ memory₀ order selected net counter₀ copy₀ support list₀ forward turned triples known₀ queue₀ m memory counter copy list known
+    queue =
     count m * 2 ^ mostFields + queue
 
 begin-requires : tie.Need-begin-requires Inv-loop μ-loop
-begin-requires c κs = let p = c .before .before .before .before .before .before .before .before .before .pre in (p .0 .0, p .1 .1)
+begin-requires c κs = let p = c .before .before .before .before .before .before .before .before .before .before .pre in (p .0 .0, p .1 .1)
 
 returns : tie.Need-returns Inv-loop μ-loop
 returns c = begun-engine _ _ _ _ _ (rw (c .if1 .taken) at (c .before .begin .ensures .0))
@@ -35,7 +37,7 @@ loop-holds : tie.Need-loop-holds Inv-loop μ-loop
 loop-holds c =
     let begun = c .before in (
       turning-start _ _ _ _ _ (begun .begin .ensures .0 .live (c .if1 .left)),
-      store-start _ _ _ _ (begun .before .before .before .before .before .before .before .before .before .before .pre .1 .0),
+      store-start _ _ _ _ (begun .before .before .before .before .before .before .before .before .before .before .before .pre .1 .0),
       refl,
       begun .begin .ensures .1 (c .if1 .left),
     )
@@ -45,9 +47,9 @@ round-requires c κs =
     let loop = c .before .before .before .before .before .before .before .before in
     let i = loop .loop .inv in
     let begun = loop .before .before in
-    let p = begun .before .before .before .before .before .before .before .before .before .before .pre in
-    let live = begun-asks _ _ _ _ _ _ (p .0 .0) (rw (loop .before .if1 .left) at (begun .begin .ensures .0)) in
-    ((kept-asks _ _ _ _ live (i .0 .kept .1), i .1), ((p .0 .1, i .0 .small), i .3))
+    let p = begun .before .before .before .before .before .before .before .before .before .before .before .pre in
+    let live = begun-asks _ _ _ _ _ _ _ (p .0 .0) (rw (loop .before .if1 .left) at (begun .begin .ensures .0)) in
+    ((kept-asks _ _ _ _ _ live (i .0 .kept .1), i .1), ((p .0 .1, i .0 .small), i .3))
 
 same-length : tie.Need-same-length Inv-loop μ-loop
 same-length c =
@@ -66,9 +68,9 @@ loop-less c =
     let round = c .before .before .before in
     let turn = round .before .before .before .before .before .before .before .before in
     let loop = turn .before in
-    let p = loop .before .before .before .before .before .before .before .before .before .before .before .before .pre .0 in
+    let p = loop .before .before .before .before .before .before .before .before .before .before .before .before .before .pre .0 in
     turning-less _ _ _ _ _ _ _ _ _ (loop .loop .inv .0) (rw (c .if2 .left) at (round .round .ensures .0))
-    (fields-small _ _ _ _ _ (p .0 .wired .few) (p .1 .selected-fields)) (turn .loop-test .taken)
+    (fields-small _ _ _ _ _ _ (p .0 .wired .few) (p .1 .selected-fields)) (turn .loop-test .taken)
 
 loop-again : tie.Need-loop-again Inv-loop μ-loop
 loop-again c =

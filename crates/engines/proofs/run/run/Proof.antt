@@ -6,17 +6,17 @@ use Rattle.engines.proofs.run.run.Tie as tie
 
 sac-requires : tie.Need-sac-requires
 sac-requires c κs =
-    let p = c .before .before .before .before .before .before .before .before .before .before .before .pre in
+    let p = c .before .before .before .before .before .before .before .before .before .before .before .before .pre in
     (p .0, (p .1, blank-zeros))
 
 queued-requires : tie.Need-queued-requires
 queued-requires c κs =
-    let p = c .before .before .before .before .before .before .before .before .before .before .before .pre in
+    let p = c .before .before .before .before .before .before .before .before .before .before .before .before .pre in
     (p .0, (p .1, blank-zeros))
 
 sac-requires-2 : tie.Need-sac-requires-2
 sac-requires-2 c κs =
-    let p = c .before .before .before .before .before .before .before .before .before .before .before .pre in
+    let p = c .before .before .before .before .before .before .before .before .before .before .before .before .pre in
     (p .0, (p .1, blank-zeros))
 
 same-length : tie.Need-same-length

@@ -4,7 +4,7 @@ use mathlib.Core.Bool.{true≢false}
 use Prim.Native.Nat.{_≤_, _-_}
 use borrow.Author.Needs.{needs}
 use lib.ListN.{length}
-use Rattle.network.specs.Tables.{problemOf}
+use Rattle.network.specs.TripleTable.{problemOf}
 use Rattle.network.specs.Network.{problemIn}
 use Rattle.closing.specs.Asks.{Counted}
 use Rattle.visiting.specs.Store.{Store}
@@ -14,26 +14,26 @@ use Rattle.engines.proofs.sac.pass.Statement.{statement}
 use Rattle.engines.proofs.sac.pass.Tie as tie
 
 abbrev Inv-loop : tie.InvT-loop
-Inv-loop m₀ known₀ memory₀ remembers order selected net counter₀ copy₀ support list₀ forward turned n touched₀ q₀
+Inv-loop m₀ known₀ memory₀ remembers order selected net counter₀ copy₀ support list₀ forward turned triples n touched₀ q₀
     m known memory counter copy list touched q =
-    (q ≤ n) × Passing (problemIn net forward turned) order (net .hood) selected m₀ q touched m
-    × Store (problemIn net forward turned) (net .hood) m known memory × (length memory ≡ length memory₀)
-    × Counted (problemIn net forward turned) support counter copy list m
+    (q ≤ n) × Passing (problemIn net forward turned triples) order (net .hood) selected m₀ q touched m
+    × Store (problemIn net forward turned triples) (net .hood) m known memory × (length memory ≡ length memory₀)
+    × Counted (problemIn net forward turned triples) support counter copy list m
 
 abbrev μ-loop : tie.MeasureT-loop
-μ-loop m₀ known₀ memory₀ remembers order selected net counter₀ copy₀ support list₀ forward turned n touched₀ q₀
+μ-loop m₀ known₀ memory₀ remembers order selected net counter₀ copy₀ support list₀ forward turned triples n touched₀ q₀
     m known memory counter copy list touched q =
     n - q
 
 loop-holds : tie.Need-loop-holds Inv-loop μ-loop
 loop-holds c =
-    let p = c .before .before .before .before .pre in
+    let p = c .before .before .before .before .before .pre in
     (search needs, passing-start _ _ _ _ _ (p .0 .0 .live), p .0 .1, refl, p .1 .1)
 
 field-at-requires : tie.Need-field-at-requires Inv-loop μ-loop
 field-at-requires c κs =
-    let p = c .before .before .before .before .before .before .pre in
-    order-low _ _ _ _ _ _ _ (p .1 .0) (p .0 .0 .wired .few) _ (c .loop-test .taken)
+    let p = c .before .before .before .before .before .before .before .pre in
+    order-low _ _ _ _ _ _ _ _ (p .1 .0) (p .0 .0 .wired .few) _ (c .loop-test .taken)
 
 add-q : tie.Need-add-q Inv-loop μ-loop
 add-q c = search needs
@@ -45,10 +45,10 @@ visit-requires : tie.Need-visit-requires Inv-loop μ-loop
 visit-requires c κs =
     let field = c .before .before .before .before .before .before .before .before in
     let loop = field .before .before in
-    let p = loop .before .before .before .before .before .pre in (
-      (kept-asks _ _ _ _ (p .0 .0) (loop .loop .inv .1 .kept), loop .loop .inv .2),
+    let p = loop .before .before .before .before .before .before .pre in (
+      (kept-asks _ _ _ _ _ (p .0 .0) (loop .loop .inv .1 .kept), loop .loop .inv .2),
       (
-        rw (field .field-at .ensures .0) (visit-asks _ _ _ _ _ _ _ (p .1 .0) (p .0 .0 .wired .few) _ (field .before .loop-test .taken)),
+        rw (field .field-at .ensures .0) (visit-asks _ _ _ _ _ _ _ _ (p .1 .0) (p .0 .0 .wired .few) _ (field .before .loop-test .taken)),
         loop .loop .inv .4,
       ),
     )
@@ -66,10 +66,10 @@ returns c =
     let test = visit .before .before .before .before .before .before .before in
     let field = test .before .before in
     let loop = field .before .before in
-    let p = loop .before .before .before .before .before .pre in
+    let p = loop .before .before .before .before .before .before .pre in
     let e = field .field-at .ensures .0 in
     let on = rw e at (sym (test .before .has-bit .ensures) ∙ test .if1 .taken) in
-    let in-mask = visit-selected _ _ _ _ _ _ _ (p .1 .0) (p .0 .0 .wired .few) _ (field .before .loop-test .taken) on in
+    let in-mask = visit-selected _ _ _ _ _ _ _ _ (p .1 .0) (p .0 .0 .wired .few) _ (field .before .loop-test .taken) on in
     let visited = rw e at (visit .visit .ensures .0) in
     let none = passing-none _ _ _ _ _ _ _ _ (loop .loop .inv .1) in-mask _ _ _ visited (c .if2 .taken) _ in
     (none, (λ z. absurd (true≢false z)), λ z. absurd (true≢false z))
@@ -84,10 +84,10 @@ loop-again c =
     let test = visit .before .before .before .before .before .before .before in
     let field = test .before .before in
     let loop = field .before .before in
-    let p = loop .before .before .before .before .before .pre in
+    let p = loop .before .before .before .before .before .before .pre in
     let e = field .field-at .ensures .0 in
     let on = rw e at (sym (test .before .has-bit .ensures) ∙ test .if1 .taken) in
-    let in-mask = visit-selected _ _ _ _ _ _ _ (p .1 .0) (p .0 .0 .wired .few) _ (field .before .loop-test .taken) on in
+    let in-mask = visit-selected _ _ _ _ _ _ _ _ (p .1 .0) (p .0 .0 .wired .few) _ (field .before .loop-test .taken) on in
     let visited = rw e at (visit .visit .ensures .0) in (
       search needs,
       passing-turn _ _ _ _ _ _ _ _ (loop .loop .inv .1) in-mask _ _ _ visited (c .before .if2 .left),
@@ -112,7 +112,7 @@ returns-2 : tie.Need-returns-2 Inv-loop μ-loop
 unfolding problemOf
 returns-2 c =
     let loop = c .before in
-    let p = loop .before .before .before .before .before .pre in
+    let p = loop .before .before .before .before .before .before .pre in
     let i = loop .loop .inv in
     (passing-end _ _ _ _ _ _ _ _ (p .1 .0 .visits) (c .loop-test .left) (i .1), (λ _. i .2), λ _. i .4)
 

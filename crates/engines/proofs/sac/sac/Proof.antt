@@ -13,17 +13,18 @@ use Rattle.engines.proofs.sac.sac.Statement.{statement}
 use Rattle.engines.proofs.sac.sac.Tie as tie
 
 abbrev Inv-loop : tie.InvT-loop
-Inv-loop m₀ memory₀ remembers order selected net counter₀ copy₀ support list₀ forward turned known₀ m memory counter copy list known =
-    ((touched : ℕ) × Kept (problemIn net forward turned) (net .hood) selected m₀ touched m)
-    × Store (problemIn net forward turned) (net .hood) m known memory × (length memory ≡ length memory₀)
-    × Counted (problemIn net forward turned) support counter copy list m
+Inv-loop m₀ memory₀ remembers order selected net counter₀ copy₀ support list₀ forward turned triples known₀ m memory counter copy list
+    known =
+    ((touched : ℕ) × Kept (problemIn net forward turned triples) (net .hood) selected m₀ touched m)
+    × Store (problemIn net forward turned triples) (net .hood) m known memory × (length memory ≡ length memory₀)
+    × Counted (problemIn net forward turned triples) support counter copy list m
 
 abbrev μ-loop : tie.MeasureT-loop
-μ-loop m₀ memory₀ remembers order selected net counter₀ copy₀ support list₀ forward turned known₀ m memory counter copy list known =
+μ-loop m₀ memory₀ remembers order selected net counter₀ copy₀ support list₀ forward turned triples known₀ m memory counter copy list known =
     count m
 
 begin-requires : tie.Need-begin-requires Inv-loop μ-loop
-begin-requires c κs = let p = c .before .before .before .before .before .before .before .before .before .pre in (p .0 .0, p .1 .1)
+begin-requires c κs = let p = c .before .before .before .before .before .before .before .before .before .before .pre in (p .0 .0, p .1 .1)
 
 returns : tie.Need-returns Inv-loop μ-loop
 returns c = begun-engine _ _ _ _ _ (rw (c .if1 .taken) at (c .before .begin .ensures .0))
@@ -31,7 +32,7 @@ returns c = begun-engine _ _ _ _ _ (rw (c .if1 .taken) at (c .before .begin .ens
 loop-holds : tie.Need-loop-holds Inv-loop μ-loop
 loop-holds c =
     let begun = c .before in
-    let p = begun .before .before .before .before .before .before .before .before .before .before .pre in
+    let p = begun .before .before .before .before .before .before .before .before .before .before .before .pre in
     let e = begun .begin .ensures in
     let left = c .if1 .left in
     ((0, kept-start _ _ _ _ (e .0 .live left)), store-start _ _ _ _ (p .1 .0), refl, e .1 left)
@@ -41,9 +42,9 @@ pass-requires c κs =
     let loop = c .before .before .before .before .before .before .before in
     let i = loop .loop .inv in
     let begun = loop .before .before in
-    let p = begun .before .before .before .before .before .before .before .before .before .before .pre in
-    let live = begun-asks _ _ _ _ _ _ (p .0 .0) (rw (loop .before .if1 .left) at (begun .begin .ensures .0)) in
-    ((kept-asks _ _ _ _ live (i .0 .1), i .1), (p .0 .1, i .3))
+    let p = begun .before .before .before .before .before .before .before .before .before .before .before .pre in
+    let live = begun-asks _ _ _ _ _ _ _ (p .0 .0) (rw (loop .before .if1 .left) at (begun .begin .ensures .0)) in
+    ((kept-asks _ _ _ _ _ live (i .0 .1), i .1), (p .0 .1, i .3))
 
 same-length : tie.Need-same-length Inv-loop μ-loop
 same-length c =

@@ -4,7 +4,7 @@ use Prim.Native.Nat.{_≤_, _<_, _-_}
 use native.Mathlib.Omega.{arith}
 use borrow.Author.Needs.{needs}
 use Rattle.limits.specs.Limits.{mostFields}
-use Rattle.network.specs.Tables.{problemOf}
+use Rattle.network.specs.Tables.{ruleProblem}
 use Rattle.initializing.specs.Initialize.{Initializing}
 use Rattle.initializing.specs.InitializeTurn.{initialize-start, initialize-end, record-asks, count-asks}
 use Rattle.initializing.specs.InitializeTurn.{initialize-drop-asks, initialized-none, initialized-next}
@@ -13,7 +13,7 @@ use Rattle.initializing.proofs.initialize_ac.initialize_ac.Tie as tie
 
 abbrev Inv-loop : tie.InvT-loop
 Inv-loop d₀ n counter₀ support₀ list₀ joined forward turned changed₀ tail₀ j₀ d counter support list changed tail j =
-    (j ≤ n) × Initializing (problemOf n joined forward turned) d₀ list₀ j changed d list tail support counter
+    (j ≤ n) × Initializing (ruleProblem n joined forward turned) d₀ list₀ j changed d list tail support counter
 
 abbrev μ-loop : tie.MeasureT-loop
 μ-loop d₀ n counter₀ support₀ list₀ joined forward turned changed₀ tail₀ j₀ d counter support list changed tail j = n - j

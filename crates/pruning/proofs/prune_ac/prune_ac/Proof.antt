@@ -4,19 +4,19 @@ use Prim.Native.Nat.{_-_, _/_, _<_}
 use native.Mathlib.Omega.{arith}
 use lib.ListN.{getD}
 use Rattle.limits.specs.Limits.{mostFields, mostSettings, listPlaces}
-use Rattle.network.specs.Tables.{problemOf}
+use Rattle.network.specs.Tables.{ruleProblem}
 use Rattle.pruning.specs.Prune.{Pruning, pruning-start, pruning-end}
 use Rattle.pruning.specs.PruneTurn.{head-asks, drop-asks, pruned-none, pruned-next, pruned-same}
 use Rattle.pruning.proofs.prune_ac.prune_ac.Statement.{statement}
 use Rattle.pruning.proofs.prune_ac.prune_ac.Tie as tie
 
 abbrev Inv-loop : tie.InvT-loop
-Inv-loop d₀ n within counter₀ support list₀ tail joined forward turned changed₀ spent₀ t₀ head₀ none₀
+Inv-loop d₀ n within counter₀ support list₀ start tail joined forward turned changed₀ spent₀ t₀ head₀ none₀
     d counter list changed spent t head none =
-    Pruning (problemOf n joined forward turned) within support d₀ list₀ tail counter₀ head changed spent d list t counter
+    Pruning (ruleProblem n joined forward turned) within support d₀ list₀ tail counter₀ start head changed spent d list t counter
 
 abbrev μ-loop : tie.MeasureT-loop
-μ-loop d₀ n within counter₀ support list₀ tail joined forward turned changed₀ spent₀ t₀ head₀ none₀
+μ-loop d₀ n within counter₀ support list₀ start tail joined forward turned changed₀ spent₀ t₀ head₀ none₀
     d counter list changed spent t head none =
     listPlaces - head
 
@@ -25,10 +25,10 @@ asks : (t : tie.In-loop Inv-loop μ-loop) → let l = t .before .loop in
     (l .head < listPlaces) × (getD (l .list) (l .head) 0 < listPlaces) × (getD (l .list) (l .head) 0 / mostSettings < mostFields)
 asks t =
     let p = t .before .before .before .before .pre in
-    head-asks _ _ _ _ (p .0) _ _ _ _ _ _ (p .1) _ _ _ _ _ _ _ (t .before .loop .inv) (t .loop-test .taken)
+    head-asks _ _ _ _ (p .0) _ _ _ _ _ _ _ (p .1) _ _ _ _ _ _ _ (t .before .loop .inv) (t .loop-test .taken)
 
 loop-holds : tie.Need-loop-holds Inv-loop μ-loop
-loop-holds c = pruning-start _ _ _ _ _ _ _ (c .before .before .pre .1)
+loop-holds c = pruning-start _ _ _ _ _ _ _ _ (c .before .before .pre .1)
 
 mul-x : tie.Need-mul-x Inv-loop μ-loop
 mul-x c = omega (arith, asks c .0)
@@ -60,7 +60,7 @@ drop-requires : tie.Need-drop-requires Inv-loop μ-loop
 drop-requires c κs =
     let t = c .before .before .before .before .before .before .before .before .before .before .before in
     let p = t .before .before .before .before .pre in
-    drop-asks _ _ _ _ (p .0) _ _ _ _ _ _ (p .1) _ _ _ _ _ _ _ (t .before .loop .inv) (t .loop-test .taken)
+    drop-asks _ _ _ _ (p .0) _ _ _ _ _ _ _ (p .1) _ _ _ _ _ _ _ (t .before .loop .inv) (t .loop-test .taken)
 
 returns : tie.Need-returns Inv-loop μ-loop
 returns c =
@@ -69,7 +69,7 @@ returns c =
     let t = bit .before .before in
     let p = t .before .before .before .before .pre in
     rw (bit .one-bit .ensures)
-    (pruned-none _ _ _ _ (p .0) _ _ _ _ _ _ (p .1) _ _ _ _ _ _ _ (t .before .loop .inv) (t .loop-test .taken)
+    (pruned-none _ _ _ _ (p .0) _ _ _ _ _ _ _ (p .1) _ _ _ _ _ _ _ (t .before .loop .inv) (t .loop-test .taken)
     _ _ _ (lowered .lower-fields .ensures) _ _ _ _ (rw (c .if2 .taken) at (c .before .drop .ensures)) _)
 
 loop-less : tie.Need-loop-less Inv-loop μ-loop
@@ -85,7 +85,7 @@ loop-again c =
     let t = bit .before .before in
     let p = t .before .before .before .before .pre in
     rw (bit .one-bit .ensures)
-    (pruned-next _ _ _ _ (p .0) _ _ _ _ _ _ (p .1) _ _ _ _ _ _ _ (t .before .loop .inv) (t .loop-test .taken)
+    (pruned-next _ _ _ _ (p .0) _ _ _ _ _ _ _ (p .1) _ _ _ _ _ _ _ (t .before .loop .inv) (t .loop-test .taken)
     _ _ _ (lowered .lower-fields .ensures) _ _ _ _ (rw (c .before .if2 .left) at (c .before .before .drop .ensures)))
 
 loop-less-2 : tie.Need-loop-less-2 Inv-loop μ-loop
@@ -97,7 +97,7 @@ loop-again-2 c =
     let t = bit .before .before in
     let p = t .before .before .before .before .pre in
     rw (bit .one-bit .ensures)
-    (pruned-same _ _ _ _ (p .0) _ _ _ _ _ _ (p .1) _ _ _ _ _ _ _ (t .before .loop .inv) (t .loop-test .taken)
+    (pruned-same _ _ _ _ (p .0) _ _ _ _ _ _ _ (p .1) _ _ _ _ _ _ _ (t .before .loop .inv) (t .loop-test .taken)
     _ _ _ (c .before .lower-fields .ensures) (c .if1 .left))
 
 returns-2 : tie.Need-returns-2 Inv-loop μ-loop
@@ -105,7 +105,7 @@ returns-2 c =
     let i = c .before .loop .inv in
     let l = i .low in
     let e : c .before .loop .head ≡ c .before .loop .t = omega arith in
-    pruning-end _ _ _ _ _ _ _ (c .before .before .before .before .pre .1) _ _ _ _ _ _ _ i e
+    pruning-end _ _ _ _ _ _ _ _ (c .before .before .before .before .pre .1) _ _ _ _ _ _ _ i e
 
 pub prune-ac-spec : {M : Type 1} → statement M
 prune-ac-spec =

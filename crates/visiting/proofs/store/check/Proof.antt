@@ -15,11 +15,11 @@ use Rattle.visiting.proofs.store.check.Tie as tie
 
 -- the setting is one of the set
 placed : (s : tie.Start) → (s .args .f < mostFields) × (s .args .v < mostSettings)
-placed s = let l = place-bound _ _ _ _ _ (s .pre .0 .0) _ _ (s .pre .1 .0 .1) in (l .1, l .2)
+placed s = let l = place-bound _ _ _ _ _ _ (s .pre .0 .0) _ _ (s .pre .1 .0 .1) in (l .1, l .2)
 
 recalled-requires : tie.Need-recalled-requires
 recalled-requires c κs =
-    let s = c .before .before .before .before .before .before in
+    let s = c .before .before .before .before .before .before .before in
     let l = placed s in
     (l .0, l .1, s .pre .0 .1 .long, s .pre .0 .0 .masks)
 
@@ -28,26 +28,26 @@ same-length c = search needs
 
 returns : tie.Need-returns
 returns c =
-    let s = c .before .before .before .before .before .before .before .before in
+    let s = c .before .before .before .before .before .before .before .before .before in
     let r = c .before .recalled .ensures .0 (c .if2 .taken) in
     let m = remembered-passes _ _ _ _ _ _ (s .pre .0 .1 .keeps _ _ (r .0)) (r .1) in
     (record { passed = sym (m .0); store = s .pre .0 .1; kept = λ _ _. (r .0, m .1) }, s .pre .1 .1)
 
 mul-test : tie.Need-mul-test
-mul-test c = let l = placed (c .before .before .before .before .before .before) .0 in omega arith
+mul-test c = let l = placed (c .before .before .before .before .before .before .before) .0 in omega arith
 
 element-copy-out-test : tie.Need-element-copy-out-test
-element-copy-out-test c = placed (c .before .before .before .before .before .before) .0
+element-copy-out-test c = placed (c .before .before .before .before .before .before .before) .0
 
 test-requires : tie.Need-test-requires
 test-requires c κs =
-    let s = c .before .before .before .before .before .before .before .before .before .pre in
+    let s = c .before .before .before .before .before .before .before .before .before .before .pre in
     let h = s .1 .0 .0 in
     ((s .0 .0, s .1 .0 .1, h .fields, h .self), s .1 .1)
 
 returns-2 : tie.Need-returns-2
 returns-2 c =
-    let s = c .before .before .before .before .before .before .before .before .before .before .before in
+    let s = c .before .before .before .before .before .before .before .before .before .before .before .before in
     let t = c .before .test in
     let failed = not-true (t .result) (c .if3 .taken) in (
       record {
@@ -61,33 +61,33 @@ returns-2 c =
 remember-requires : tie.Need-remember-requires
 remember-requires c κs =
     let test = c .before .before .before .before in
-    let s = test .before .before .before .before .before .before .before .before .before .before in
+    let s = test .before .before .before .before .before .before .before .before .before .before .before in
     let l = placed s in
     let t = test .test in
     let ok = not-false (t .result) (c .before .before .before .if3 .left) in
-    (l .0, l .1, s .pre .0 .1 .long, tested-masks _ _ _ _ _ (s .pre .0 .0) (t .ensures .0) ok)
+    (l .0, l .1, s .pre .0 .1 .long, tested-masks _ _ _ _ _ _ (s .pre .0 .0) (t .ensures .0) ok)
 
 one-bit-requires : tie.Need-one-bit-requires
 one-bit-requires c κs =
     let test = c .before .before .before .before .before .before .before in
-    let l = placed (test .before .before .before .before .before .before .before .before .before .before) in
+    let l = placed (test .before .before .before .before .before .before .before .before .before .before .before) in
     omega arith
 
 mul-known : tie.Need-mul-known
 mul-known c =
     let test = c .before .before .before .before .before .before .before .before in
-    let l = placed (test .before .before .before .before .before .before .before .before .before .before) .0 in
+    let l = placed (test .before .before .before .before .before .before .before .before .before .before .before) .0 in
     omega arith
 
 element-copy-out-known : tie.Need-element-copy-out-known
 element-copy-out-known c =
     let test = c .before .before .before .before .before .before .before .before in
-    placed (test .before .before .before .before .before .before .before .before .before .before) .0
+    placed (test .before .before .before .before .before .before .before .before .before .before .before) .0
 
 element-write-known : tie.Need-element-write-known
 element-write-known c =
     let test = c .before .before .before .before .before .before .before .before .before in
-    placed (test .before .before .before .before .before .before .before .before .before .before) .0
+    placed (test .before .before .before .before .before .before .before .before .before .before .before) .0
 
 same-length-2 : tie.Need-same-length-2
 same-length-2 c = c .before .before .before .before .remember .ensures .sized
@@ -96,13 +96,13 @@ returns-3 : tie.Need-returns-3
 returns-3 c =
     let passed = c .before .before .before .before .before .before .before .before in
     let test = passed .before in
-    let s = test .before .before .before .before .before .before .before .before .before .before in
+    let s = test .before .before .before .before .before .before .before .before .before .before .before in
     let t = test .test in
     let l = placed s in
     let ok = not-false (t .result) (passed .if3 .left) in
     let d = t .ensures .0 in
     let stored = c .before .before .before .before .remember .ensures in
-    let sized = length-restrict _ _ ∙ tested-masks _ _ _ _ _ (s .pre .0 .0) d ok .long in
+    let sized = length-restrict _ _ ∙ tested-masks _ _ _ _ _ _ (s .pre .0 .0) d ok .long in
     let rest = ap (restrict _) (d .rest ok) in (
       record {
         passed = sym ok ∙ d .passed;
@@ -119,7 +119,7 @@ returns-3 c =
 
 returns-4 : tie.Need-returns-4
 returns-4 c =
-    let s = c .before .before .before .before .before .before .before .before .before .before .before .before in
+    let s = c .before .before .before .before .before .before .before .before .before .before .before .before .before in
     let t = c .before .before .test in (
       record {
         passed = sym (not-false (t .result) (c .before .if3 .left)) ∙ t .ensures .0 .passed;

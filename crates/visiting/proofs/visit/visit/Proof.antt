@@ -17,14 +17,14 @@ use Rattle.visiting.proofs.visit.visit.Statement.{statement}
 use Rattle.visiting.proofs.visit.visit.Tie as tie
 
 abbrev Inv-loop : tie.InvT-loop
-Inv-loop m₀ known₀ memory₀ remembers f counter₀ copy₀ support list₀ forward turned net n touched₀ left₀
+Inv-loop m₀ known₀ memory₀ remembers f counter₀ copy₀ support list₀ forward turned triples net n touched₀ left₀
     m known memory counter copy list touched left =
-    Visiting (problemIn net forward turned) (getD (net .hood) f 0) f m₀ left touched m
-    × Store (problemIn net forward turned) (net .hood) m known memory × (length memory ≡ length memory₀)
-    × Counted (problemIn net forward turned) support counter copy list m
+    Visiting (problemIn net forward turned triples) (getD (net .hood) f 0) f m₀ left touched m
+    × Store (problemIn net forward turned triples) (net .hood) m known memory × (length memory ≡ length memory₀)
+    × Counted (problemIn net forward turned triples) support counter copy list m
 
 abbrev μ-loop : tie.MeasureT-loop
-μ-loop m₀ known₀ memory₀ remembers f counter₀ copy₀ support list₀ forward turned net n touched₀ left₀
+μ-loop m₀ known₀ memory₀ remembers f counter₀ copy₀ support list₀ forward turned triples net n touched₀ left₀
     m known memory counter copy list touched left =
     left
 
@@ -33,14 +33,14 @@ low : (s : tie.Start Inv-loop μ-loop) → s .args .f < mostFields
 low s = let l = s .pre .1 .0 .0 in let k = s .pre .0 .0 .wired .few in omega arith
 
 mul-left : tie.Need-mul-left Inv-loop μ-loop
-mul-left c = let l = low (c .before .before .before) in omega arith
+mul-left c = let l = low (c .before .before .before .before) in omega arith
 
 element-copy-out-left : tie.Need-element-copy-out-left Inv-loop μ-loop
-element-copy-out-left c = low (c .before .before .before)
+element-copy-out-left c = low (c .before .before .before .before)
 
 loop-holds : tie.Need-loop-holds Inv-loop μ-loop
 loop-holds c =
-    let p = c .before .before .before .before .pre in (visiting-start _ _ _ _ (p .0 .0 .live), p .0 .1, refl, p .1 .1)
+    let p = c .before .before .before .before .before .pre in (visiting-start _ _ _ _ (p .0 .0 .live), p .0 .1, refl, p .1 .1)
 
 lowest-bit-requires : tie.Need-lowest-bit-requires Inv-loop μ-loop
 lowest-bit-requires c κs = search needs
@@ -53,8 +53,8 @@ check-requires c κs =
     let v = c .before .before .before .before .before .before .before .before .before .before in
     let loop = v .before .before in
     let i = loop .loop .inv in
-    let p = loop .before .before .before .before .before .pre in (
-      (asks-shrunk _ _ _ _ _ (p .0 .0) (i .0 .shrunk) (i .0 .live), i .1),
+    let p = loop .before .before .before .before .before .before .pre in (
+      (asks-shrunk _ _ _ _ _ _ (p .0 .0) (i .0 .shrunk) (i .0 .live), i .1),
       ((p .1 .0 .1, visiting-has _ _ _ _ _ _ _ _ (i .0) (v .lowest-bit .ensures .0 .set)), i .3),
     )
 
@@ -65,7 +65,7 @@ remove-requires c κs =
     let loop = v .before .before in
     let i = loop .loop .inv .0 in (
       (
-        asks-shrunk _ _ _ _ _ (loop .before .before .before .before .before .pre .0 .0) (i .shrunk) (i .live),
+        asks-shrunk _ _ _ _ _ _ (loop .before .before .before .before .before .before .pre .0 .0) (i .shrunk) (i .live),
         visiting-has _ _ _ _ _ _ _ _ i (v .lowest-bit .ensures .0 .set),
       ),
       check .check .ensures .1,
@@ -92,14 +92,14 @@ mul-left-2 : tie.Need-mul-left-2 Inv-loop μ-loop
 mul-left-2 c =
     let check = c .before .before .before .before .before .before .before .before .before .before .before .before in
     let loop = check .before .before .before .before .before .before .before .before .before .before .before .before .before in
-    let l = low (loop .before .before .before .before .before) in
+    let l = low (loop .before .before .before .before .before .before) in
     omega arith
 
 element-copy-out-left-2 : tie.Need-element-copy-out-left-2 Inv-loop μ-loop
 element-copy-out-left-2 c =
     let check = c .before .before .before .before .before .before .before .before .before .before .before .before in
     let loop = check .before .before .before .before .before .before .before .before .before .before .before .before .before in
-    low (loop .before .before .before .before .before)
+    low (loop .before .before .before .before .before .before)
 
 loop-less : tie.Need-loop-less Inv-loop μ-loop
 loop-less c =
@@ -108,7 +108,7 @@ loop-less c =
     let clear = check .before .before .before .before .before .before .before .before .before .before in
     let l = clear-lt _ _ (clear .before .lowest-bit .ensures .0 .set) in
     let e = clear .clear-bit .ensures in
-    let s = clear .before .before .before .before .before .before .before .before in
+    let s = clear .before .before .before .before .before .before .before .before .before in
     let k = and-le-l (clear .clear-bit .result) (getD (removed .remove .last .0) (s .args .f) 0) in
     omega (arith, l, e, k)
 
