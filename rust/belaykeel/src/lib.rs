@@ -1,9 +1,10 @@
 //! The offers of a set-up page, kept under choices and strikes that are withdrawn in any order.
 //!
-//! A [`Sheet`] has fields, their settings and rules that allow pairs of settings. A [`Session`] holds the decisions in force. Each call
-//! gives the [`Offers`]: the largest set of settings under these decisions that is singleton arc consistent, over the whole sheet or over
-//! neighbourhoods of its reach. Where not every field is selected at open, it is the largest set that is arc consistent, and singleton arc
-//! consistent in the fields of the [`Selection`]. A call that is refused says why ([`Refusal`]) and changes nothing.
+//! A [`Sheet`] has fields, their settings, and rules that allow pairs of settings or three in line. A [`Session`] holds the decisions in
+//! force. Each call gives the [`Offers`]: the largest set of settings under these decisions that is singleton arc consistent, over the
+//! whole sheet or over neighbourhoods of its reach. Where not every field is selected at open, it is the largest set that is arc
+//! consistent, and singleton arc consistent in the fields of the [`Selection`]. A call that is refused says why ([`Refusal`]) and changes
+//! nothing.
 //!
 //! ```
 //! use belaykeel::{Engine, Order, Refusal, Selection, Session, Sheet, WorkSpaces};

@@ -1,5 +1,5 @@
 //! The library's calls as they are, on slices: any sheet, order, engine and space can be lent, and each call answers with its number. A
-//! call that gives offers needs about 90,000 bytes of stack; 114,688 bytes are enough.
+//! call that gives offers needs about 163,000 bytes of stack; 196,608 bytes are enough.
 //!
 //! The only file with unsafe code. Every function is safe: the library takes any slices, and those lent here cannot overlap.
 
@@ -11,14 +11,14 @@ pub const OFFERS_WORDS: usize = 24;
 pub const ROWS_WORDS: usize = 13_248;
 /// The least words of the second work space.
 pub const MEMORY_WORDS: usize = 13_824;
-/// The largest setting, and the largest number c of a rule, in micrometres.
+/// The largest setting, and the largest number c of a rule or triple, in micrometres.
 pub const LARGEST_SETTING: u32 = 1_000_000;
 /// How far the distance of a pair may be from c under kind 5, in micrometres.
 pub const ENCODER_TOLERANCE: u32 = 2;
 /// The most numbers of a sheet.
-pub const SHEET_NUMBERS: usize = 8_055;
+pub const SHEET_NUMBERS: usize = 8_184;
 /// The most bytes of a sheet.
-pub const SHEET_BYTES: usize = 29_080;
+pub const SHEET_BYTES: usize = 29_273;
 
 /// What every call is given besides the session.
 pub struct Arguments<'a> {

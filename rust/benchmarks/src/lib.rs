@@ -1,5 +1,6 @@
 //! The jobs of the library in plain Rust. The tests compare the proved code with it, and the programs `reading`, `engines`, `savings`,
-//! `calls` and `closings` time both. The program `selections` times the proved code with fewer fields selected.
+//! `calls` and `closings` time both. The program `selections` times the proved code with fewer fields selected, and
+//! `triples` whole calls on sheets with triples.
 
 #![deny(unsafe_code)]
 
@@ -15,6 +16,9 @@ pub mod task;
 
 /// The most fields of a sheet, and the most settings of a field.
 pub const MOST: usize = 24;
+
+/// The most triples of a sheet.
+pub const MOST_TRIPLES: u32 = 32;
 
 /// The reach at which every neighbourhood is the whole sheet.
 pub const WHOLE_REACH: u32 = 24;

@@ -9,6 +9,7 @@ mod network;
 mod pairs;
 pub mod reading;
 mod tables;
+mod triples;
 
 use crate::role::{Role, BEFORE};
 use crate::task::Job;

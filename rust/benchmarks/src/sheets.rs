@@ -1,7 +1,9 @@
 //! The sheets that are measured: random ones, planted ones, long ones and pages of a mill. The same sheet for the same seed.
 
+mod drafts;
 mod mill;
 
+pub use drafts::Draft;
 pub use mill::{Mill, MILLS};
 
 use crate::WHOLE_REACH;
@@ -47,7 +49,7 @@ impl Class {
             let forbidden = random.marks(d * d, self.tightness);
             rules.push(Rule { i, j, kind: 0, numbers: forbidden.chunks(d).map(allowed).collect() });
         }
-        Sheet { settings: vec![(0..d as u32).collect(); self.fields], reach: self.reach, rules }
+        Sheet { settings: vec![(0..d as u32).collect(); self.fields], reach: self.reach, rules, triples: vec![] }
     }
 
     /// The sheet with the pairs of one complete set-up added, drawn at random, so that some choice is accepted.

@@ -1,5 +1,5 @@
-//! The proved engines, the plain ones and the solver agree: on small random sheets with rules of every kind, of all reaches, with random
-//! orders, selections and start sets, and on larger ones without the solver.
+//! The proved engines, the plain ones and the solver agree: on small random sheets with rules of every kind and triples, of all reaches,
+//! with random orders, selections and start sets, and on larger ones without the solver.
 
 use benchmarks::contestants::engines;
 use benchmarks::measure::agree;
@@ -15,6 +15,7 @@ use tests::selections::good;
 use tests::shapes::Size;
 use tests::sheets::unequal;
 use tests::taste;
+use tests::triples::with_triples;
 
 /// A start set: every setting, or some of them.
 fn start(random: &mut Random, full: Domains) -> Domains {
@@ -41,11 +42,12 @@ fn solve(sheet: &Sheet, job: &Job) -> (Offers, [u64; 2]) {
     (runs[0].answer, [sac1[0], sac2])
 }
 
-/// A small sheet with rules of kind 0, of a class where a setting often fails its test though it has support.
+/// A small sheet with rules of kind 0, and triples half of the time, of a class where a setting often fails its test though it has support.
 fn masked_sheet(random: &mut Random) -> Sheet {
     let (fields, settings) = (4 + random.below(4), 2 + random.below(3));
     let (density, tightness) = (random.pick(&[0.4, 0.7, 1.0]), random.pick(&[0.25, 0.35, 0.45, 0.55]));
-    Class { fields, settings, density, tightness, reach: random.pick(&[1, 2, 3, 24]) }.sheet(random.word())
+    let sheet = Class { fields, settings, density, tightness, reach: random.pick(&[1, 2, 3, 24]) }.sheet(random.word());
+    with_triples(random, sheet)
 }
 
 #[test]
@@ -102,7 +104,7 @@ fn agree_on_larger_sheets() {
         let density = random.pick(&[0.2, 0.5, 1.0]);
         let tightness = 0.1 + 0.7 * random.below(100) as f64 / 100.0;
         let reach = random.pick(&[1, 2, 3, 23, 24, 24]);
-        let sheet = Class { fields, settings, density, tightness, reach }.sheet(seed);
+        let sheet = with_triples(&mut random, Class { fields, settings, density, tightness, reach }.sheet(seed));
         let job = random_job(&mut random, &sheet);
         solve(&sheet, &job);
     }
@@ -115,9 +117,9 @@ fn offers_of(sheet: &Sheet) -> Option<Vec<u32>> {
 #[test]
 fn worked_cases() {
     let rule = Rule { i: 0, j: 1, kind: 1, numbers: vec![100] };
-    let sheet_d = Sheet { settings: vec![vec![100, 200, 300]; 2], reach: 24, rules: vec![rule] };
+    let sheet_d = Sheet { settings: vec![vec![100, 200, 300]; 2], reach: 24, rules: vec![rule], triples: vec![] };
     assert_eq!(offers_of(&sheet_d), Some(vec![6, 3]));
-    assert_eq!(offers_of(&Sheet { settings: vec![vec![300]], reach: 24, rules: vec![] }), Some(vec![1]));
+    assert_eq!(offers_of(&Sheet { settings: vec![vec![300]], reach: 24, rules: vec![], triples: vec![] }), Some(vec![1]));
     let triangle = [(0, 1), (0, 2), (1, 2)];
     let ring = [(0, 1), (0, 4), (1, 2), (2, 3), (3, 4)];
     for reach in [1, 24] {

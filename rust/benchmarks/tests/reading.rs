@@ -8,6 +8,7 @@ use solver::reading::groups;
 use std::fmt::Debug;
 use tests::shapes::{self, Size};
 use tests::sheets::{damage_bytes, damage_numbers, largest, numbers, strings};
+use tests::triples::damage_triples;
 
 /// Makes a call of the library and the plain one, with an output of this length. The number of both.
 fn same<G: Debug + ?Sized, W: Clone + PartialEq + Debug>(
@@ -40,9 +41,12 @@ fn agree_on_random_sheets() {
     let mut random = Random(1);
     let (mut read, mut written) = ([0; 7], [0; 21]);
     for _ in 0..200_000 {
-        let mut numbers = numbers(&shapes::sheet(&mut random, Size::Small));
-        if random.below(3) > 0 {
-            damage_numbers(&mut random, &mut numbers);
+        let sheet = shapes::sheet(&mut random, Size::Small);
+        let mut numbers = numbers(&sheet);
+        match random.below(4) {
+            0 => (),
+            1 => damage_triples(&mut random, &sheet, &mut numbers),
+            _ => damage_numbers(&mut random, &mut numbers),
         }
         let room = random.below(2 * numbers.len() + 2);
         written[same_write(&numbers, 2 * room) as usize] += 1;
@@ -60,8 +64,8 @@ fn agree_on_random_sheets() {
 #[test]
 fn agree_on_short_strings_of_bytes() {
     for end in (0..4).flat_map(strings) {
-        for start in [&[][..], &[1, 1, 0, 24]] {
-            same_read(&[start, &end].concat(), 8);
+        for start in [&[][..], &[1, 1, 0, 24], &[4, 1, 0, 1, 0, 1, 0, 1, 0, 24, 0], &[3, 1, 0, 1, 0, 1, 0, 24, 0, 1, 0, 1]] {
+            same_read(&[start, &end].concat(), 14);
         }
     }
 }
@@ -70,7 +74,7 @@ fn agree_on_short_strings_of_bytes() {
 fn the_largest_sheet() {
     let numbers = largest();
     let bytes = groups(&numbers);
-    assert_eq!((numbers.len(), bytes.len()), (8055, 29080));
-    assert_eq!((same_read(&bytes, 8055), same_read(&bytes, 8054)), (0, 6));
-    assert_eq!((same_write(&numbers, 29080), same_write(&numbers, 29079)), (0, 6));
+    assert_eq!((numbers.len(), bytes.len()), (8184, 29273));
+    assert_eq!((same_read(&bytes, 8184), same_read(&bytes, 8183)), (0, 6));
+    assert_eq!((same_write(&numbers, 29273), same_write(&numbers, 29272)), (0, 6));
 }

@@ -13,13 +13,16 @@ pub mod sheet;
 pub use ledger::{Arguments, Call, Decision, Event, Ledger, Sort};
 pub use network::{Network, Set};
 pub use session::Words;
-pub use sheet::{Rule, Sheet};
+pub use sheet::{Rule, Sheet, Triple};
 
 /// The most fields of a sheet, and the most settings of a field.
 pub const MOST: usize = 24;
 
-/// The largest setting, and the largest c of a rule, in micrometres: request 3 of 02.
+/// The largest setting, and the largest c of a rule or a triple, in micrometres: requests 3 and 12 of 02.
 pub const LARGEST_SETTING: u32 = 1_000_000;
 
 /// How far the distance of a pair may be from c under kind 5, in micrometres: request 6 of 02.
 pub const ENCODER_TOLERANCE: u32 = 2;
+
+/// The most triple rules of a sheet: request 12 of 02.
+pub const MOST_TRIPLES: u32 = 32;

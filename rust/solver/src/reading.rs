@@ -1,7 +1,7 @@
 //! A sheet from its bytes or its list of numbers, and back, with refusals 1 to 6, and 20 for a list.
 
-use crate::sheet::{Rule, Sheet};
-use crate::LARGEST_SETTING;
+use crate::sheet::{Rule, Sheet, Triple};
+use crate::{LARGEST_SETTING, MOST_TRIPLES};
 
 /// Where a sheet's numbers come from: bytes to read, or a list to write, which has no rule of kind 2.
 enum Source<'a> {
@@ -72,10 +72,14 @@ impl Reader<'_> {
         Ok(settings)
     }
 
+    /// One of so many fields.
+    fn field(&mut self, fields: usize) -> Result<usize, u32> {
+        self.number(0, fields as u32 - 1).map(|field| field as usize)
+    }
+
     fn rule(&mut self, settings: &[Vec<u32>], last: Option<(usize, usize)>) -> Result<Rule, u32> {
-        let last_field = settings.len() as u32 - 1;
-        let i = self.number(0, last_field)? as usize;
-        let j = self.number(0, last_field)? as usize;
+        let i = self.field(settings.len())?;
+        let j = self.field(settings.len())?;
         if i >= j || last.is_some_and(|last| last >= (i, j)) {
             return Err(4);
         }
@@ -94,6 +98,34 @@ impl Reader<'_> {
         Ok(Rule { i, j, kind, numbers })
     }
 
+    /// A triple of so many fields; the one before it has the fields `last`.
+    fn triple(&mut self, fields: usize, last: Option<[usize; 3]>) -> Result<Triple, u32> {
+        let i = self.field(fields)?;
+        let j = self.field(fields)?;
+        if i >= j {
+            return Err(4);
+        }
+        let k = self.field(fields)?;
+        if j >= k || last.is_some_and(|last| last >= [i, j, k]) {
+            return Err(4);
+        }
+        let c = self.number(0, LARGEST_SETTING)?;
+        Ok(Triple { i, j, k, c })
+    }
+
+    /// The triples: none where the sheet ends after the rules, else a count and so many.
+    fn triples(&mut self, fields: usize) -> Result<Vec<Triple>, u32> {
+        let mut triples: Vec<Triple> = vec![];
+        if self.source.ended() {
+            return Ok(triples);
+        }
+        for _ in 0..self.number(1, MOST_TRIPLES)? {
+            let last = triples.last().map(Triple::fields);
+            triples.push(self.triple(fields, last)?);
+        }
+        Ok(triples)
+    }
+
     fn sheet(&mut self) -> Result<Sheet, u32> {
         let mut settings = vec![];
         for _ in 0..self.number(1, 24)? {
@@ -105,10 +137,11 @@ impl Reader<'_> {
             let last = rules.last().map(|rule| (rule.i, rule.j));
             rules.push(self.rule(&settings, last)?);
         }
+        let triples = self.triples(settings.len())?;
         if !self.source.ended() {
             return Err(5);
         }
-        Ok(Sheet { settings, reach, rules })
+        Ok(Sheet { settings, reach, rules, triples })
     }
 }
 

@@ -2,12 +2,13 @@
 
 use crate::ENCODER_TOLERANCE;
 
-/// Each field's settings in micrometres, the reach and the rules.
+/// Each field's settings in micrometres, the reach, the rules and the triple rules.
 #[derive(Clone, Debug, PartialEq, Eq)]
 pub struct Sheet {
     pub settings: Vec<Vec<u32>>,
     pub reach: u32,
     pub rules: Vec<Rule>,
+    pub triples: Vec<Triple>,
 }
 
 /// A rule of fields i and j: its kind, then a mask for each setting of i (kind 0) or c alone.
@@ -17,6 +18,22 @@ pub struct Rule {
     pub j: usize,
     pub kind: u32,
     pub numbers: Vec<u32>,
+}
+
+/// A triple rule of fields i, j and k with its number c: request 12 of 02.
+#[derive(Clone, Copy, Debug, PartialEq, Eq)]
+pub struct Triple {
+    pub i: usize,
+    pub j: usize,
+    pub k: usize,
+    pub c: u32,
+}
+
+impl Triple {
+    /// Its fields, rising.
+    pub fn fields(&self) -> [usize; 3] {
+        [self.i, self.j, self.k]
+    }
 }
 
 impl Sheet {
@@ -54,5 +71,19 @@ impl Sheet {
             5 => p.abs_diff(q).abs_diff(c) <= u64::from(ENCODER_TOLERANCE),
             kind => unreachable!("a sheet that was read has no kind {kind}"),
         }
+    }
+
+    /// Whether these positions of the triple's fields may go together: p + r and 2 q differ by at most c.
+    pub fn allows_three(&self, triple: &Triple, [v, u, w]: [usize; 3]) -> bool {
+        let p = u64::from(self.settings[triple.i][v]);
+        let q = u64::from(self.settings[triple.j][u]);
+        let r = u64::from(self.settings[triple.k][w]);
+        (p + r).abs_diff(2 * q) <= u64::from(triple.c)
+    }
+
+    /// Whether these positions, one for each field, are a complete set-up: every rule and every triple allows them.
+    pub fn complete(&self, positions: &[usize]) -> bool {
+        self.rules.iter().all(|rule| self.allows(rule, positions[rule.i], positions[rule.j]))
+            && self.triples.iter().all(|triple| self.allows_three(triple, triple.fields().map(|f| positions[f])))
     }
 }

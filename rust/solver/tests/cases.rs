@@ -106,7 +106,8 @@ fn numbers_in_groups() {
     assert_eq!(refused(&[]), 1);
     assert_eq!(refused(&[2, 1, 0, 1, 0, 24, 1, 1, 1]), 4);
     assert_eq!(refused(&[1, 2, 5, 5]), 4);
-    assert_eq!(refused(&[1, 1, 0, 24, 0, 0x80]), 5);
+    assert_eq!(refused(&[1, 1, 0, 24, 0, 0x80]), 1);
+    assert_eq!(refused(&[3, 1, 0, 1, 0, 1, 0, 24, 0, 1, 0, 1, 2, 0, 0x80]), 5);
 }
 
 /// Two triangles of fields {1, 2}, {1, 2} and {1, 2, 3}, the fields of each unequal, and a field equal to the last of the first triangle.

@@ -4,6 +4,7 @@
 //! BELAYKEEL_SEED sets the seed, BELAYKEEL_CALLS how many calls the random tests make, BELAYKEEL_REPLAY a file with a printed case for the
 //! test `replay`. BELAYKEEL_STATICLIB names the directory of libbelaykeel.a where it is not the repository's own.
 
+pub mod answers;
 pub mod case;
 pub mod drive;
 pub mod forge;
@@ -23,5 +24,6 @@ pub mod steps;
 pub mod tally;
 pub mod taste;
 pub mod text;
+pub mod triples;
 
 pub use random::Random;

@@ -4,6 +4,7 @@ pub mod counting;
 mod fault;
 pub mod offers;
 mod selecting;
+mod triples;
 
 pub use fault::Fault;
 
@@ -13,6 +14,7 @@ use belaykeel::raw::Arguments;
 use belaykeel::{Event, Session};
 use solver::{reading, Call};
 use std::collections::BTreeMap;
+use triples::{falls_at_second, without_zero};
 
 /// The linked library with a fault.
 pub struct Planted {
@@ -31,8 +33,8 @@ fn again<'a>(given: &'a mut Arguments) -> Arguments<'a> {
 
 /// Whether a setting or a number c of a sheet is past 65,535.
 fn wide(sheet: &[u8]) -> bool {
-    let (setting, c) = widest(&reading::sheet(sheet).expect("the call was accepted"));
-    setting.max(c) > 65_535
+    let widest = widest(&reading::sheet(sheet).expect("the call was accepted"));
+    widest.into_iter().any(|number| number > 65_535)
 }
 
 /// The bytes of a sheet with 1,000,000 in each place of 1,000,001.
@@ -58,7 +60,8 @@ impl Planted {
         match (self.fault, number) {
             (Fault::Swapped, 12 | 13) => 25 - number,
             (Fault::LowerLimit, 0) if wide(given.sheet) => 3,
-            (Fault::HigherLimit, 3) => Linked.call(session, call, again(given)),
+            (Fault::HigherLimit | Fault::ZeroTriples, 3) => Linked.call(session, call, again(given)),
+            (Fault::OrderAtSecond, 1 | 3) if falls_at_second(given.sheet) => 4,
             (Fault::OrderUnread, 9) => {
                 let n = reading::sheet(given.sheet).expect("9 comes after the sheet").fields();
                 let order: Vec<u8> = (0..n as u8).collect();
@@ -109,7 +112,11 @@ impl Library for Planted {
             given.rows[0] ^= 1;
         }
         let number = Linked.call(session, call, again(&mut given));
-        let read = if self.fault == Fault::HigherLimit && number == 3 { one_less(given.sheet) } else { given.sheet.to_vec() };
+        let read = match (self.fault, number) {
+            (Fault::HigherLimit, 3) => one_less(given.sheet),
+            (Fault::ZeroTriples, 3) => without_zero(given.sheet),
+            _ => given.sheet.to_vec(),
+        };
         let mut given = Arguments { sheet: &read, ..given };
         let number = self.misjudged(number, session, call, &mut given);
         if number == 0 {

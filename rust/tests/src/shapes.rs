@@ -1,6 +1,7 @@
-//! Random and structured sheets: rings, cliques, chains, stars, rules of every kind, narrow and wide fields.
+//! Random and structured sheets: rings, cliques, chains, stars, rules of every kind, triples, narrow and wide fields.
 
-use crate::gadgets::{apart, far};
+use crate::gadgets::{apart, far, with_a_field_outside};
+use crate::triples::with_triples;
 use crate::Random;
 use solver::{Rule, Sheet, ENCODER_TOLERANCE, LARGEST_SETTING};
 
@@ -42,6 +43,8 @@ pub fn sheet(random: &mut Random, size: Size) -> Sheet {
         }
         (Size::Small, 4) => return far(random, &[5, 5, 7, 9, 11]),
         (Size::Long, 4) => return far(random, &[13, 15, 17, 19, 21]),
+        (Size::Small, 5) if random.one_in(2) => return with_a_field_outside(random, &[1, 1, 2]),
+        (Size::Long, 5) if random.one_in(2) => return with_a_field_outside(random, &[2, 3, 5, 8, 11]),
         _ => (),
     }
     let (fields, settings) = match size {
@@ -63,12 +66,13 @@ fn small_part(random: &mut Random) -> Sheet {
 }
 
 fn of_any_sort(random: &mut Random, frame: Frame) -> Sheet {
-    match random.below(6) {
+    let sheet = match random.below(6) {
         0 => unequal(random, frame),
         1 => steps(random, frame),
         2 => masked(random, frame),
         _ => mixed(random, frame),
-    }
+    };
+    with_triples(random, sheet)
 }
 
 /// A sheet where settings that have support often fail their tests, and removals lead to more.
@@ -80,11 +84,8 @@ fn hard(random: &mut Random, size: Size) -> Sheet {
     };
     let pairs = every(fields).filter(|_| random.below(10) < share).collect();
     let frame = Frame { fields, settings, reach: random.pick(&[1, 2, 2, 3, 24]), pairs };
-    if random.one_in(3) {
-        unequal(random, frame)
-    } else {
-        masked(random, frame)
-    }
+    let sheet = if random.one_in(3) { unequal(random, frame) } else { masked(random, frame) };
+    with_triples(random, sheet)
 }
 
 fn reach(random: &mut Random) -> u32 {
@@ -151,7 +152,7 @@ fn unequal(random: &mut Random, frame: Frame) -> Sheet {
         };
         Rule { i, j, kind, numbers: vec![c] }
     };
-    Sheet { settings, reach: frame.reach, rules: frame.pairs.iter().map(rule).collect() }
+    Sheet { settings, reach: frame.reach, rules: frame.pairs.iter().map(rule).collect(), triples: vec![] }
 }
 
 /// Rules that ask for a step up or down, of a few micrometres or of half the range.
@@ -171,7 +172,7 @@ fn steps(random: &mut Random, frame: Frame) -> Sheet {
         };
         rules.push(Rule { i, j, kind, numbers: vec![c as u32] });
     }
-    Sheet { settings, reach: frame.reach, rules }
+    Sheet { settings, reach: frame.reach, rules, triples: vec![] }
 }
 
 /// Rules of kind 0. The share of allowed pairs is a little above the one at which a random sheet has about one complete set-up.
@@ -186,7 +187,7 @@ fn masked(random: &mut Random, frame: Frame) -> Sheet {
         let numbers = settings[i].iter().map(|_| mask(settings[j].len())).collect();
         rules.push(Rule { i, j, kind: 0, numbers });
     }
-    Sheet { settings, reach, rules }
+    Sheet { settings, reach, rules, triples: vec![] }
 }
 
 /// Rules of every kind, over a narrow or a wide span.
@@ -205,7 +206,7 @@ fn mixed(random: &mut Random, frame: Frame) -> Sheet {
         };
         rules.push(Rule { i, j, kind, numbers });
     }
-    Sheet { settings, reach: frame.reach, rules }
+    Sheet { settings, reach: frame.reach, rules, triples: vec![] }
 }
 
 /// A number c that differs from the distance of two settings by at most one more than kind 5 allows.

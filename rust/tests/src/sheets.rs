@@ -1,9 +1,10 @@
 //! Sheets as numbers and bytes, a few fixed ones, and damaged ones.
 
 use crate::shapes::every;
+use crate::triples::damage_triples;
 use crate::Random;
 use solver::reading::groups;
-use solver::{Rule, Sheet, LARGEST_SETTING};
+use solver::{Rule, Sheet, Triple, LARGEST_SETTING, MOST_TRIPLES};
 
 /// The list of numbers of a sheet.
 pub fn numbers(sheet: &Sheet) -> Vec<u32> {
@@ -17,6 +18,13 @@ pub fn numbers(sheet: &Sheet) -> Vec<u32> {
         numbers.extend([rule.i as u32, rule.j as u32, rule.kind]);
         numbers.extend(&rule.numbers);
     }
+    if !sheet.triples.is_empty() {
+        numbers.push(sheet.triples.len() as u32);
+    }
+    for triple in &sheet.triples {
+        numbers.extend(triple.fields().map(|f| f as u32));
+        numbers.push(triple.c);
+    }
     numbers
 }
 
@@ -25,23 +33,32 @@ pub fn bytes(sheet: &Sheet) -> Vec<u8> {
     groups(&numbers(sheet))
 }
 
-/// The numbers of the largest sheet: 24 fields of 24 settings in three groups, 276 rules of 24 masks in four.
+/// The numbers of the largest sheet: 24 fields of 24 settings in three groups, 276 rules of 24 masks in four, and 32 triples with a number
+/// c in three.
 pub fn largest() -> Vec<u32> {
     let rule = |(i, j)| Rule { i, j, kind: 0, numbers: vec![(1 << 24) - 1; 24] };
     let settings = vec![(LARGEST_SETTING - 23..=LARGEST_SETTING).collect(); 24];
-    numbers(&Sheet { settings, reach: 24, rules: every(24).map(rule).collect() })
+    numbers(&Sheet { settings, reach: 24, rules: every(24).map(rule).collect(), triples: most_triples() })
 }
 
-/// The largest setting of a sheet, and the largest number c of its rules; 0 where there is none.
-pub fn widest(sheet: &Sheet) -> (u32, u32) {
-    let amounts = sheet.rules.iter().filter(|rule| rule.kind > 0).flat_map(|rule| &rule.numbers);
-    (sheet.settings.iter().flatten().copied().max().unwrap_or(0), amounts.copied().max().unwrap_or(0))
+/// As many triples of 24 fields as may be, with the largest c.
+pub fn most_triples() -> Vec<Triple> {
+    let pairs = every(24).filter(|&(j, _)| j > 0).take(MOST_TRIPLES as usize);
+    pairs.map(|(j, k)| Triple { i: 0, j, k, c: LARGEST_SETTING }).collect()
+}
+
+/// The largest setting of a sheet, the largest number c of its rules, and that of its triples; 0 where there is none.
+pub fn widest(sheet: &Sheet) -> [u32; 3] {
+    let setting = sheet.settings.iter().flatten().copied().max();
+    let of_rules = sheet.rules.iter().filter(|rule| rule.kind > 0).map(|rule| rule.numbers[0]).max();
+    let of_triples = sheet.triples.iter().map(|triple| triple.c).max();
+    [setting, of_rules, of_triples].map(|most| most.unwrap_or(0))
 }
 
 /// Fields {1, 2} with a distance of at least 1 for each of these pairs.
 pub fn unequal(fields: usize, reach: u32, pairs: &[(usize, usize)]) -> Sheet {
     let rule = |&(i, j): &(usize, usize)| Rule { i, j, kind: 3, numbers: vec![1] };
-    Sheet { settings: vec![vec![1, 2]; fields], reach, rules: pairs.iter().map(rule).collect() }
+    Sheet { settings: vec![vec![1, 2]; fields], reach, rules: pairs.iter().map(rule).collect(), triples: vec![] }
 }
 
 /// Every string of so many bytes that are often at the edge of something: small numbers, and groups that end or continue.
@@ -115,16 +132,16 @@ pub fn damage_bytes(random: &mut Random, bytes: &mut Vec<u8>) {
     }
 }
 
-/// The sheet with a field's last setting, or a rule's number c, at the end of the range or just past it.
+/// The sheet with a field's last setting, or the number c of a rule or a triple, at the end of the range or just past it.
 fn at_the_end(random: &mut Random, sheet: &Sheet) -> Sheet {
     let mut sheet = sheet.clone();
     let number = LARGEST_SETTING - 1 + random.below(4) as u32;
     let field = random.below(sheet.fields());
-    let rule = random.below(sheet.rules.len() + 1);
-    match sheet.rules.get_mut(rule).filter(|rule| rule.kind > 0) {
-        Some(rule) => rule.numbers[0] = number,
-        None => *sheet.settings[field].last_mut().expect("a setting") = number,
-    }
+    let amounts = sheet.rules.iter_mut().filter(|rule| rule.kind > 0).map(|rule| &mut rule.numbers[0]);
+    let mut places: Vec<&mut u32> = amounts.chain(sheet.triples.iter_mut().map(|triple| &mut triple.c)).collect();
+    places.extend(sheet.settings[field].last_mut());
+    let place = random.below(places.len());
+    *places[place] = number;
     sheet
 }
 
@@ -135,7 +152,9 @@ pub fn damaged(random: &mut Random, sheet: &Sheet) -> Vec<u8> {
     }
     let mut numbers = numbers(sheet);
     let by_numbers = random.one_in(2);
-    if by_numbers {
+    if by_numbers && random.one_in(3) {
+        damage_triples(random, sheet, &mut numbers);
+    } else if by_numbers {
         damage_numbers(random, &mut numbers);
     }
     let mut bytes = groups(&numbers);

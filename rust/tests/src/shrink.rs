@@ -1,4 +1,4 @@
-//! Makes a failing case small: fewer calls, fields, rules and settings, and plainer arguments, as long as it still fails.
+//! Makes a failing case small: fewer calls, fields, rules, triples and settings, and plainer arguments, as long as it still fails.
 
 use crate::case::{empty_session, Case, Fill, Step, ENOUGH};
 use crate::smaller::{with_sheet, without_field, without_setting};
@@ -11,9 +11,11 @@ use std::time::{Duration, Instant};
 enum Change {
     Field(usize),
     Rule(usize),
+    Triple(usize),
     Setting(usize, usize),
     Reach(u32),
     Number(usize, u32),
+    TripleNumber(usize, u32),
     Byte(usize),
     Session,
     Word(usize),
@@ -51,9 +53,11 @@ fn changes(case: &Case) -> Vec<Change> {
     if let Ok(sheet) = reading::sheet(&case.sheet) {
         changes.extend((0..sheet.fields()).rev().map(Change::Field));
         changes.extend((0..sheet.rules.len()).rev().map(Change::Rule));
+        changes.extend((0..sheet.triples.len()).rev().map(Change::Triple));
         changes.extend((0..24).rev().flat_map(|f| (0..24).rev().map(move |v| Change::Setting(f, v))));
         changes.extend([24, 1, 2].map(Change::Reach));
         changes.extend((0..sheet.rules.len()).flat_map(|rule| [0, 1].map(|c| Change::Number(rule, c))));
+        changes.extend((0..sheet.triples.len()).flat_map(|triple| [0, 1].map(|c| Change::TripleNumber(triple, c))));
     } else {
         changes.extend((0..case.sheet.len()).rev().map(Change::Byte));
     }
@@ -71,18 +75,24 @@ fn changes(case: &Case) -> Vec<Change> {
     changes
 }
 
+/// Removes the entry at a place, where there is one.
+fn remove<T>(list: &mut Vec<T>, at: usize) {
+    if at < list.len() {
+        list.remove(at);
+    }
+}
+
 fn applied(case: &Case, change: Change) -> Option<Case> {
     match change {
         Change::Field(f) => without_field(case, f),
         Change::Setting(f, v) => without_setting(case, f, v),
-        Change::Rule(r) => with_sheet(case, |sheet| {
-            let mut places = 0..;
-            sheet.rules.retain(|_| places.next() != Some(r));
-        }),
+        Change::Rule(r) => with_sheet(case, |sheet| remove(&mut sheet.rules, r)),
+        Change::Triple(t) => with_sheet(case, |sheet| remove(&mut sheet.triples, t)),
         Change::Reach(reach) => with_sheet(case, |sheet| sheet.reach = reach),
         Change::Number(r, c) => with_sheet(case, |sheet| {
             sheet.rules.iter_mut().skip(r).take(1).filter(|rule| rule.kind > 0).for_each(|rule| rule.numbers[0] = c);
         }),
+        Change::TripleNumber(t, c) => with_sheet(case, |sheet| sheet.triples.iter_mut().skip(t).take(1).for_each(|triple| triple.c = c)),
         Change::Byte(at) => {
             let mut shorter = case.clone();
             (at < case.sheet.len()).then(|| shorter.sheet.remove(at))?;

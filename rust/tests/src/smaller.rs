@@ -1,9 +1,9 @@
-//! A case without one of its fields, settings or rules: sheet, calls, orders and sessions are renumbered together.
+//! A case without one of its fields, settings, rules or triples: sheet, calls, orders and sessions are renumbered together.
 
 use crate::case::{setting, with_setting, Case, Given, Step};
 use crate::sheets::bytes;
 use solver::session::{COUNT, SELECTED};
-use solver::{reading, Call, Sheet, Words};
+use solver::{reading, Call, Sheet, Triple, Words};
 
 /// Takes place `at` out of a count: what stands above moves down, and `at` itself is gone.
 fn moved(place: u32, at: usize) -> Option<u32> {
@@ -81,6 +81,11 @@ pub fn without_field(case: &Case, f: usize) -> Option<Case> {
     for rule in &mut sheet.rules {
         rule.i -= usize::from(rule.i > f);
         rule.j -= usize::from(rule.j > f);
+    }
+    sheet.triples.retain(|triple| !triple.fields().contains(&f));
+    for triple in &mut sheet.triples {
+        let [i, j, k] = triple.fields().map(|g| g - usize::from(g > f));
+        *triple = Triple { i, j, k, ..*triple };
     }
     let setting = |field: u32, position: u32| moved(field, f).map(|field| (field, position));
     let order = |order: &[u8]| order.iter().filter_map(|&field| moved(field.into(), f)).map(|field| field as u8).collect();

@@ -44,8 +44,10 @@ pub struct Tally {
     pub settings: BTreeSet<usize>,
     pub reaches: BTreeSet<u32>,
     pub kinds: BTreeSet<u32>,
-    /// The largest setting, and the largest c of a rule.
-    pub widest: (u32, u32),
+    /// How many triples the sheets had.
+    pub triples: BTreeSet<usize>,
+    /// The largest setting, the largest c of a rule, and that of a triple.
+    pub widest: [u32; 3],
 }
 
 impl Tally {
@@ -74,8 +76,8 @@ impl Tally {
         self.settings.extend(sheet.settings.iter().map(Vec::len));
         self.reaches.insert(sheet.reach);
         self.kinds.extend(sheet.rules.iter().map(|rule| rule.kind));
-        let (setting, c) = widest(sheet);
-        self.widest = (self.widest.0.max(setting), self.widest.1.max(c));
+        self.triples.insert(sheet.triples.len());
+        self.widest.iter_mut().zip(widest(sheet)).for_each(|(most, number)| *most = number.max(*most));
     }
 
     /// How many calls there were.
@@ -99,8 +101,9 @@ impl fmt::Display for Tally {
             }
             writeln!(formatter)?;
         }
-        let (fields, settings, reaches) = (self.fields.len(), self.settings.len(), self.reaches.len());
-        writeln!(formatter, "{fields} counts of fields, {settings} of settings, {reaches} reaches, {} kinds", self.kinds.len())?;
+        let [fields, settings, triples] = [&self.fields, &self.settings, &self.triples].map(BTreeSet::len);
+        let (reaches, kinds) = (self.reaches.len(), self.kinds.len());
+        writeln!(formatter, "{fields} counts of fields, {settings} of settings, {triples} of triples, {reaches} reaches, {kinds} kinds")?;
         for (engine, accepted) in (1..).zip(&self.accepted) {
             let (least, whole) = (accepted.iter().min().unwrap(), accepted[23]);
             let short: u64 = accepted[..23].iter().sum();
@@ -110,7 +113,7 @@ impl fmt::Display for Tally {
             writeln!(formatter, "engine {engine}: accepted by what is selected {selected:?}")?;
         }
         writeln!(formatter, "masks of open {:?}, of other calls {:?}, {} selected afresh", self.opened, self.held, self.reselected)?;
-        let (setting, c) = self.widest;
-        write!(formatter, "settings up to {setting}, c up to {c}")
+        let [setting, of_rules, of_triples] = self.widest;
+        write!(formatter, "settings up to {setting}, c up to {of_rules} in rules and {of_triples} in triples")
     }
 }

@@ -1,49 +1,13 @@
 //! The worked cases of the scope paper and of the later requests, through the wrapper, with every engine.
 
-use belaykeel::{Engine, Offers, Order, Refusal, Session, Sheet, WorkSpaces};
+use belaykeel::{Engine, Refusal, Sheet};
 use solver::reading::groups;
 use solver::Call;
-use tests::selections::{self, selection};
+use tests::answers::{answer, last};
 use tests::sheets::{self, bytes};
 
 const SHEET_D: [u8; 19] =
     [0x02, 0x03, 0x64, 0xC8, 0x01, 0xAC, 0x02, 0x03, 0x64, 0xC8, 0x01, 0xAC, 0x02, 0x18, 0x01, 0x00, 0x01, 0x01, 0x64];
-
-fn call(session: &mut Session, sheet: &Sheet, engine: Engine, call: Call, spaces: &mut WorkSpaces) -> Result<Offers, Refusal> {
-    let order = &Order::Rising;
-    match call {
-        Call::Open(selected) => session.open(sheet, engine, order, &selection(selected, fields(sheet)), spaces),
-        Call::Show => session.show(sheet, engine, order, spaces),
-        Call::Choose(f, v) => session.choose(sheet, engine, order, f, v, spaces),
-        Call::Strike(f, v) => session.strike(sheet, engine, order, f, v, spaces),
-        Call::WithdrawChoice(f, v) => session.withdraw_choice(sheet, engine, order, f, v, spaces),
-        Call::WithdrawStrike(f, v) => session.withdraw_strike(sheet, engine, order, f, v, spaces),
-        Call::Back => session.back(sheet, engine, order, spaces),
-        Call::CoilOn => session.coil_on(sheet, engine, order, spaces),
-    }
-}
-
-fn fields(sheet: &Sheet) -> usize {
-    sheet.as_bytes()[0].into()
-}
-
-/// What the last of these calls gives: the masks or the number. The calls before it are accepted.
-fn answer(sheet: &Sheet, engine: Engine, calls: &[Call]) -> Result<Vec<u32>, u32> {
-    let mut spaces = WorkSpaces::new();
-    let mut session = Session::default();
-    let (&end, before) = calls.split_last().expect("a call");
-    for &one in before {
-        call(&mut session, sheet, engine, one, &mut spaces).expect("an accepted call");
-    }
-    let answer = call(&mut session, sheet, engine, end, &mut spaces);
-    answer.map(|offers| offers.masks().to_vec()).map_err(Refusal::number)
-}
-
-/// The same after an open with every field selected; without a call, what that open gives.
-fn last(sheet: &Sheet, engine: Engine, calls: &[Call]) -> Result<Vec<u32>, u32> {
-    let open = Call::Open(selections::all(fields(sheet)));
-    answer(sheet, engine, &[&[open], calls].concat())
-}
 
 /// Fields {1, 2}, the fields of each pair unequal.
 fn unequal(fields: usize, reach: u32, pairs: &[(usize, usize)]) -> Sheet {

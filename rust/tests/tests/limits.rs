@@ -26,6 +26,8 @@ fn header_and_wrapper() {
         let named = ["u32", "u64", "usize"].map(|kind| format!("pub const {name}: {kind} = {limit};"));
         assert!(named.iter().any(|line| code.contains(line)), "{name} is not {limit} in the code");
     }
+    let most_triples = ["u32", "usize"].map(|kind| format!("pub const MOST_TRIPLES: {kind} = {};", solver::MOST_TRIPLES));
+    assert!(most_triples.iter().any(|line| code.contains(line)), "{most_triples:?}");
     assert_eq!(solver::LARGEST_SETTING, raw::LARGEST_SETTING);
     assert_eq!(solver::ENCODER_TOLERANCE, raw::ENCODER_TOLERANCE);
 }

@@ -17,7 +17,7 @@ fn first_failure(fault: Fault, calls: u64) -> (u64, Failure) {
     let mut random = Random(5);
     let mut tally = Tally::default();
     while tally.calls() < calls {
-        let plan = Plan { size: Size::Small, forging: random.one_in(3), damaged: false };
+        let plan = Plan { size: Size::Small, forging: random.one_in(3), damaged: random.one_in(4) };
         if let Err(failure) = sequence(&|| Box::new(Planted::new(fault)), plan, random.word(), &mut tally) {
             return (tally.calls(), failure);
         }
@@ -29,7 +29,7 @@ fn first_failure(fault: Fault, calls: u64) -> (u64, Failure) {
 fn planted_faults_are_found() {
     for fault in Fault::ALL {
         let maker = || -> Box<dyn Library> { Box::new(Planted::new(fault)) };
-        let (calls, failure) = first_failure(fault, 60_000);
+        let (calls, failure) = first_failure(fault, 100_000);
         let text = report(&maker, failure);
         println!("{fault:?}, after {calls} calls:\n{text}\n");
         let case = parse(&text);

@@ -61,17 +61,18 @@ fn expected(call: Call, causes: Causes) -> u32 {
     order.into_iter().find(|&(_, holds)| holds).map_or(0, |(number, _)| number)
 }
 
-/// Fields {1}, {1} and {5, 6}; the first two keep a distance of at least 0, or of 1, which wipes them out. Then the fault.
+/// Fields {1}, {1} and {5, 6}; the first two keep a distance of at least 0, or of 1, which wipes them out. Then a triple that allows
+/// everything, with the fault.
 fn sheet(causes: Causes) -> Vec<u8> {
     let reach = if causes.engine == Engine::TwoAtShortReach { 2 } else { 24 };
     let c = u8::from(causes.wiped);
-    let mut bytes = vec![3, 1, 1, 1, 1, 2, 5, 6, reach, 1, 0, 1, 3, c];
+    let mut bytes = vec![3, 1, 1, 1, 1, 2, 5, 6, reach, 1, 0, 1, 3, c, 1, 0, 1, 2, 9];
     let last = bytes.len() - 1;
     match causes.sheet {
         1 => bytes.truncate(last),
-        2 => bytes.splice(last.., [c | 0x80, 0x00]).for_each(drop),
+        2 => bytes.splice(last.., [0x89, 0x00]).for_each(drop),
         3 => bytes.splice(last.., [0xC1, 0x84, 0x3D]).for_each(drop),
-        4 => bytes.swap(last - 3, last - 2),
+        4 => bytes.swap(last - 2, last - 1),
         5 => bytes.push(0),
         _ => (),
     }

@@ -6,6 +6,7 @@ use tests::drive::environment;
 use tests::shapes::{self, Size};
 use tests::sheets::{damage_bytes, damage_numbers, largest, numbers, strings};
 use tests::shrink::shorter;
+use tests::triples::{damage_triples, front};
 use tests::Random;
 
 /// Whether an answer and an output are the solver's: 0, the length and the list at the front of the output, or the number and nothing
@@ -67,14 +68,17 @@ fn random_sheets() {
     let seed = environment("BELAYKEEL_SEED", 1);
     println!("BELAYKEEL_SEED={seed}");
     let mut random = Random(seed);
-    let (mut read, mut written) = ([0u64; 7], [0u64; 21]);
+    let (mut read, mut in_triples, mut written) = ([0u64; 7], [0u64; 7], [0u64; 21]);
     let (mut before_kind_2, mut after_kind_2) = (0, 0);
     for _ in 0..environment("BELAYKEEL_CALLS", 200_000) / 4 {
         let size = if random.one_in(50) { Size::Long } else { Size::Small };
         let sheet = shapes::sheet(&mut random, size);
-        let mut numbers = numbers(&sheet);
-        if random.one_in(2) {
-            damage_numbers(&mut random, &mut numbers);
+        let (whole, front) = (numbers(&sheet), front(&sheet));
+        let mut numbers = whole.clone();
+        match random.below(4) {
+            0 => damage_numbers(&mut random, &mut numbers),
+            1 => damage_triples(&mut random, &sheet, &mut numbers),
+            _ => (),
         }
         let mut bytes = reading::groups(&numbers);
         let number = same_write(&numbers, room(&mut random, bytes.len()));
@@ -84,20 +88,27 @@ fn random_sheets() {
         if random.one_in(2) {
             damage_bytes(&mut random, &mut bytes);
         }
-        read[same_read(&bytes, room(&mut random, numbers.len())) as usize] += 1;
+        let number = same_read(&bytes, room(&mut random, numbers.len()));
+        read[number as usize] += 1;
+        in_triples[number as usize] += u64::from(bytes.starts_with(&reading::groups(&whole[..front])));
     }
-    println!("read {read:?}, written {written:?}, faults before kind 2 {before_kind_2} and after it {after_kind_2}");
-    assert!(read.iter().all(|&count| count > 0), "{read:?}");
+    println!("read {read:?}, in triples {in_triples:?}, written {written:?}");
+    println!("faults before kind 2 {before_kind_2} and after it {after_kind_2}");
+    assert!(read.iter().chain(&in_triples).all(|&count| count > 0), "{read:?} {in_triples:?}");
     assert!([0, 1, 3, 4, 5, 6, 20].iter().all(|&number| written[number] > 0), "{written:?}");
     assert!(before_kind_2 > 0 && after_kind_2 > 0);
 }
 
+/// A sheet of five fields with the first of three triples.
+const THREE_OF_FIVE: [u8; 18] = [5, 1, 0, 1, 0, 1, 0, 1, 0, 1, 0, 24, 0, 3, 1, 2, 3, 0];
+
 #[test]
 fn short_strings_of_bytes() {
     let starts: [&[u8]; 5] = [&[], &[1, 1], &[1, 1, 0, 24], &[1, 1, 0, 24, 0], &[3, 1, 0, 1, 0, 2, 0, 9, 24, 2, 0, 1, 4, 9]];
+    let with_triples: [&[u8]; 3] = [&[3, 1, 0, 1, 0, 1, 0, 24, 0], &[4, 1, 0, 1, 0, 1, 0, 1, 0, 24, 0, 2, 0, 1, 3, 9], &THREE_OF_FIVE];
     for end in (0..5).flat_map(strings) {
-        for start in starts {
-            same_read(&[start, &end].concat(), 20);
+        for start in starts.into_iter().chain(with_triples) {
+            same_read(&[start, &end].concat(), 30);
         }
     }
 }
@@ -106,10 +117,11 @@ fn short_strings_of_bytes() {
 fn the_largest_sheet() {
     let numbers = largest();
     let mut bytes = reading::groups(&numbers);
-    assert_eq!((numbers.len(), bytes.len()), (8_055, 29_080));
-    assert_eq!((same_read(&bytes, 8_055), same_read(&bytes, 8_054)), (0, 6));
-    assert_eq!((same_write(&numbers, 29_080), same_write(&numbers, 29_079)), (0, 6));
-    for at in (0..bytes.len()).step_by(487) {
+    assert_eq!((numbers.len(), bytes.len()), (8_184, 29_273));
+    assert_eq!((same_read(&bytes, 8_184), same_read(&bytes, 8_183)), (0, 6));
+    assert_eq!((same_write(&numbers, 29_273), same_write(&numbers, 29_272)), (0, 6));
+    assert_eq!((same_read(&bytes[..29_080], 8_055), same_write(&numbers[..8_055], 29_080)), (0, 0));
+    for at in (0..bytes.len()).step_by(487).chain(29_079..bytes.len()) {
         same_read(&bytes[..at], 9_000);
     }
     bytes.push(0);

@@ -11,7 +11,7 @@ use tests::Random;
 /// The place of the first kind 2 in a sheet's list of numbers.
 fn place_of_retired(sheet: &solver::Sheet) -> Option<usize> {
     let first = sheet.rules.iter().position(|rule| rule.kind == 2)?;
-    let front = solver::Sheet { rules: sheet.rules[..first].to_vec(), ..sheet.clone() };
+    let front = solver::Sheet { rules: sheet.rules[..first].to_vec(), triples: vec![], ..sheet.clone() };
     Some(numbers(&front).len() + 2)
 }
 

@@ -13,7 +13,7 @@ fn odd_ring(fields: usize, reach: u32) -> Sheet {
         Rule { i, j, kind, numbers: vec![c] }
     };
     let rules = ring(fields).into_iter().enumerate().map(rule).collect();
-    let sheet = solver::Sheet { settings: vec![vec![1, 2]; fields], reach, rules };
+    let sheet = solver::Sheet { settings: vec![vec![1, 2]; fields], reach, rules, triples: vec![] };
     Sheet::from_bytes(bytes(&sheet))
 }
 
@@ -48,7 +48,7 @@ fn chains_of_every_length_and_width() {
         for d in 1..=24usize {
             let rules = (1..fields).map(|j| Rule { i: j - 1, j, kind: 2, numbers: vec![1] }).collect();
             let settings = vec![(0..d as u32).collect(); fields];
-            let sheet = Sheet::from_bytes(bytes(&solver::Sheet { settings, reach: 24, rules }));
+            let sheet = Sheet::from_bytes(bytes(&solver::Sheet { settings, reach: 24, rules, triples: vec![] }));
             for engine in Engine::ALL {
                 let answer = opened(&sheet, engine, &Order::Rising, &mut spaces);
                 let masks = |room: usize| (0..fields).map(|f| ((1 << room) - 1) << f).collect();

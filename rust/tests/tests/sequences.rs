@@ -15,11 +15,13 @@ fn share(size: Size, forging: bool, damaged: bool, thousandths: u64) -> Tally {
     tally
 }
 
-/// Every number of these was given, and settings and c went up to the largest, where there were calls enough to ask for it.
+/// Every number of these was given, settings and c went up to the largest, and sheets had no triple, few and the most, where there were
+/// calls enough to ask for it.
 fn all_given(tally: &Tally, numbers: &[u32]) {
     if tally.calls() >= 10_000 {
         assert!(numbers.iter().all(|&number| tally.number(number) > 0), "{tally}");
-        assert_eq!(tally.widest, (1_000_000, 1_000_000), "{tally}");
+        assert_eq!(tally.widest, [1_000_000; 3], "{tally}");
+        assert!([0, 1, 2, 32].iter().all(|count| tally.triples.contains(count)), "{tally}");
     }
 }
 

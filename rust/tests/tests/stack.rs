@@ -7,20 +7,20 @@ use std::thread::Builder;
 use tests::linked::{Library, Linked};
 use tests::repository::lines;
 use tests::shapes::every;
-use tests::sheets::bytes;
+use tests::sheets::{bytes, most_triples};
 
-/// What header and wrapper say is enough for a call, in bytes. The most that a call was seen to use is 89,255.
-const CALL: usize = 114_688;
+/// What header and wrapper say is enough for a call, in bytes. The most that a call was seen to use is about 162,700.
+const CALL: usize = 196_608;
 
 /// What the thread and the functions of the test need beside it: they use about half of this.
 const THREAD: usize = 16_384;
 
 /// 24 fields of 24 settings with a rule for each pair, but the first two have 2 settings, and all differ. So tests of these two settings in
-/// the other fields fail.
+/// the other fields fail. There are as many triples as may be, and they allow everything.
 fn sheet() -> Vec<u8> {
     let settings = |f: usize| (0..if f < 2 { 2 } else { 24 }).collect();
     let rules = every(24).map(|(i, j)| Rule { i, j, kind: 3, numbers: vec![1] }).collect();
-    bytes(&Sheet { settings: (0..24).map(settings).collect(), reach: 24, rules })
+    bytes(&Sheet { settings: (0..24).map(settings).collect(), reach: 24, rules, triples: most_triples() })
 }
 
 /// Makes the calls in turn; each is accepted.

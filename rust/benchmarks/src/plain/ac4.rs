@@ -1,5 +1,5 @@
 //! Closing by AC-4, as the proved engines do it: the counts and the support sets of Figure 2 of source document 004 are made once, and one
-//! setting is taken from the list a turn.
+//! setting is taken from the list a turn. Triples are revised where the list is empty.
 //!
 //! A count is kept in binary, and the counts of all settings towards a field are sets, one for each digit. So lowering the counts of a
 //! support set by one is a subtraction digit by digit, for all settings of a field at once and for the fields side by side.
@@ -7,6 +7,7 @@
 use super::closing::Closing;
 use super::network::{members, Network};
 use super::tables::Tables;
+use super::triples::losing;
 use crate::{Domains, Offers, MOST};
 
 /// The binary digits of a count, which is at most 24.
@@ -164,6 +165,41 @@ fn prune_ac(given: &Given, domains: &mut Domains, counter: &mut [Counts; MOST], 
     Pruned { lost: Some(lost), lowered }
 }
 
+/// Revises the triples of `due` until one takes settings away, which go to the list. The fields that lost them, or nothing where one has
+/// none left.
+fn revise(given: &Given, domains: &mut Domains, list: &mut List, due: &mut u32) -> Option<u32> {
+    let triples = &given.network.triples;
+    while *due != 0 {
+        let t = due.trailing_zeros() as usize;
+        *due &= *due - 1;
+        let lost = triples.revise(t, domains, given.within)?;
+        let fields = losing(&lost);
+        if fields != 0 {
+            lost.into_iter().for_each(|(f, gone)| list.enter(f, gone));
+            *due |= triples.of(fields) & !(1 << t);
+            return Some(fields);
+        }
+    }
+    Some(0)
+}
+
+/// pruneAC, and the triples where the list is empty; of these only `due` may leave a setting without support.
+#[inline(always)]
+fn close(given: &Given, domains: &mut Domains, counter: &mut [Counts; MOST], list: &mut List, mut due: u32) -> Pruned {
+    let (mut lost, mut lowered) = (0, 0);
+    loop {
+        let pruned = prune_ac(given, domains, counter, list);
+        lowered |= pruned.lowered;
+        let Some(more) = pruned.lost else { return Pruned { lost: None, lowered } };
+        due |= given.network.triples.of(more);
+        let Some(fields) = revise(given, domains, list, &mut due) else { return Pruned { lost: None, lowered } };
+        lost |= more | fields;
+        if fields == 0 {
+            return Pruned { lost: Some(lost), lowered };
+        }
+    }
+}
+
 impl Ac4 {
     /// initializeAC, for the counts towards each field in turn.
     fn initialize_ac(&mut self, network: &Network, domains: &mut Domains) -> Option<()> {
@@ -194,16 +230,15 @@ impl Ac4 {
 }
 
 impl Closing for Ac4 {
-    fn load(&mut self, numbers: &[u32]) -> Network {
-        let network = self.tables.load(numbers);
+    fn load(&mut self, numbers: &[u32], network: &mut Network) {
+        self.tables.load(numbers, network);
         self.wide = network.fields.next_multiple_of(4);
-        network
     }
 
     fn start(&mut self, network: &Network, domains: &mut Domains) -> Option<()> {
         self.initialize_ac(network, domains)?;
         let given = Given { network, support: &self.support, wide: self.wide, within: network.all() };
-        prune_ac(&given, domains, &mut self.counter, &mut self.list).lost?;
+        close(&given, domains, &mut self.counter, &mut self.list, network.triples.all()).lost?;
         self.copy_again(network.all());
         Some(())
     }
@@ -214,7 +249,7 @@ impl Closing for Ac4 {
         self.list.clear();
         self.list.enter(f, domains[f] & !(1 << v));
         let given = Given { network, support: &self.support, wide: self.wide, within: network.hood[f] };
-        let pruned = prune_ac(&given, &mut cut, &mut self.copy, &mut self.list);
+        let pruned = close(&given, &mut cut, &mut self.copy, &mut self.list, network.triples.of(1 << f));
         self.copy_again(pruned.lowered);
         pruned.lost.map(|_| cut)
     }
@@ -223,7 +258,7 @@ impl Closing for Ac4 {
         self.list.clear();
         self.list.enter(f, 1 << v);
         let given = Given { network, support: &self.support, wide: self.wide, within: network.all() };
-        let pruned = prune_ac(&given, domains, &mut self.counter, &mut self.list);
+        let pruned = close(&given, domains, &mut self.counter, &mut self.list, network.triples.of(1 << f));
         self.copy_again(pruned.lowered);
         pruned.lost
     }

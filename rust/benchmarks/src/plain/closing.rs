@@ -1,12 +1,13 @@
-//! What the ways of closing share. All but AC-4 are AC-3 with a mask of the changed fields.
+//! What the ways of closing share. All but AC-4 are AC-3 with a mask of the changed fields. Triples are revised where the rules are closed.
 
 use super::network::Network;
+use super::triples::losing;
 use crate::{Domains, Offers, MOST};
 
 /// A way to close a set, with its tables.
 pub trait Closing: Default {
-    /// Fills the tables from an accepted list of numbers.
-    fn load(&mut self, numbers: &[u32]) -> Network;
+    /// Fills the tables and the network from an accepted list of numbers.
+    fn load(&mut self, numbers: &[u32], network: &mut Network);
 
     /// Closes the start set over every field; nothing where a field has no setting left.
     fn start(&mut self, network: &Network, domains: &mut Domains) -> Option<()>;
@@ -21,33 +22,52 @@ pub trait Closing: Default {
 
 /// A way to close a set by AC-3.
 pub trait Ac3: Default {
-    /// Fills the tables from an accepted list of numbers.
-    fn load(&mut self, numbers: &[u32]) -> Network;
+    /// Fills the tables and the network from an accepted list of numbers.
+    fn load(&mut self, numbers: &[u32], network: &mut Network);
 
-    /// Closes the set over the fields of `within`, where only the fields of `changed` may leave a setting without support. The fields
-    /// that lost settings, or nothing where one has none left.
+    /// Closes the set under the rules over the fields of `within`, where only the fields of `changed` may leave a setting without support.
+    /// The fields that lost settings, or nothing where one has none left.
     fn close(&self, network: &Network, domains: &mut Domains, within: u32, changed: u32) -> Option<u32>;
+
+    /// The same under rules and triples, where of these only `due` may leave a setting without support.
+    fn close_all(&self, network: &Network, domains: &mut Domains, within: u32, changed: u32, mut due: u32) -> Option<u32> {
+        let mut touched = self.close(network, domains, within, changed)?;
+        due |= network.triples.of(touched);
+        while due != 0 {
+            let t = due.trailing_zeros() as usize;
+            due &= due - 1;
+            let lost = network.triples.revise(t, domains, within)?;
+            let fields = losing(&lost);
+            if fields != 0 {
+                due |= network.triples.of(fields) & !(1 << t);
+                let more = self.close(network, domains, within, fields)?;
+                due |= network.triples.of(more);
+                touched |= fields | more;
+            }
+        }
+        Some(touched)
+    }
 }
 
 impl<C: Ac3> Closing for C {
-    fn load(&mut self, numbers: &[u32]) -> Network {
-        Ac3::load(self, numbers)
+    fn load(&mut self, numbers: &[u32], network: &mut Network) {
+        Ac3::load(self, numbers, network);
     }
 
     fn start(&mut self, network: &Network, domains: &mut Domains) -> Option<()> {
-        self.close(network, domains, network.all(), network.all()).map(|_| ())
+        self.close_all(network, domains, network.all(), network.all(), network.triples.all()).map(|_| ())
     }
 
     #[inline]
     fn test(&mut self, network: &Network, domains: &Domains, f: usize, v: usize) -> Offers {
         let mut cut = *domains;
         cut[f] = 1 << v;
-        self.close(network, &mut cut, network.hood[f], 1 << f)?;
+        self.close_all(network, &mut cut, network.hood[f], 1 << f, network.triples.of(1 << f))?;
         Some(cut)
     }
 
     fn removed(&mut self, network: &Network, domains: &mut Domains, f: usize, _: usize) -> Option<u32> {
-        self.close(network, domains, network.all(), 1 << f)
+        self.close_all(network, domains, network.all(), 1 << f, network.triples.of(1 << f))
     }
 }
 

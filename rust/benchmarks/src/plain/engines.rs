@@ -55,7 +55,7 @@ impl<C: Closing> Solver<C> {
 
     /// Builds the tables from the numbers, and closes the start set.
     fn begin(&mut self, job: &Job) -> Offers {
-        self.network = self.closing.load(&job.numbers);
+        self.closing.load(&job.numbers, &mut self.network);
         let mut domains = job.start;
         if domains[..self.network.fields].contains(&0) {
             return None;

@@ -35,12 +35,12 @@ impl<const LANES: usize, const GROUP: usize> Default for Lanes<LANES, GROUP> {
 }
 
 impl<const LANES: usize, const GROUP: usize> Ac3 for Lanes<LANES, GROUP> {
-    fn load(&mut self, numbers: &[u32]) -> Network {
+    fn load(&mut self, numbers: &[u32], network: &mut Network) {
         let groups = most_settings(numbers).div_ceil(GROUP);
         self.groups = groups;
         let unions = &mut self.unions[..numbers[0] as usize * groups * Self::SUBSETS];
         unions.fill([u32::MAX; LANES]);
-        let network = Network::read(numbers, |rule| {
+        network.read(numbers, |rule| {
             let place = |g: usize, v: usize| (g * groups + v / GROUP) * Self::SUBSETS + (1 << (v % GROUP));
             let forward = rule.forward();
             let turned = rule.turned(&forward);
@@ -50,7 +50,6 @@ impl<const LANES: usize, const GROUP: usize> Ac3 for Lanes<LANES, GROUP> {
             }
         });
         unions.chunks_exact_mut(Self::SUBSETS).for_each(fill_subsets);
-        network
     }
 
     fn close(&self, _: &Network, domains: &mut Domains, within: u32, changed: u32) -> Option<u32> {

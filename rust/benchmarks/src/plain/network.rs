@@ -1,5 +1,6 @@
 //! The network of a sheet, read from its list of numbers.
 
+use super::triples::Triples;
 use crate::{MOST, WHOLE_REACH};
 use belaykeel::raw::ENCODER_TOLERANCE;
 
@@ -100,11 +101,12 @@ pub struct Network {
     pub hood: [u32; MOST],
     /// Whether the reach makes every neighbourhood the whole sheet.
     pub whole: bool,
+    pub triples: Triples,
 }
 
 impl Network {
     /// Reads an accepted list of numbers, and hands each of its rules on.
-    pub fn read(numbers: &[u32], mut each: impl FnMut(&Rule)) -> Network {
+    pub fn read(&mut self, numbers: &[u32], mut each: impl FnMut(&Rule)) {
         let fields = numbers[0] as usize;
         let mut settings: [&[u32]; MOST] = [&[]; MOST];
         let mut rest = &numbers[1..];
@@ -113,18 +115,22 @@ impl Network {
         }
         let (reach, rules) = (rest[0], rest[1]);
         rest = &rest[2..];
-        let mut joined = [0; MOST];
+        self.joined = [0; MOST];
         for _ in 0..rules {
             let (i, j, kind) = (rest[0] as usize, rest[1] as usize, rest[2]);
             let count = if kind == 0 { settings[i].len() } else { 1 };
             let (numbers, after) = rest[3..].split_at(count);
             rest = after;
-            joined[i] |= 1 << j;
-            joined[j] |= 1 << i;
+            self.joined[i] |= 1 << j;
+            self.joined[j] |= 1 << i;
             each(&Rule { i, j, kind, numbers, first: settings[i], second: settings[j] });
         }
-        let hood = neighbourhoods(fields, &joined, reach);
-        Network { fields, joined, hood, whole: reach >= WHOLE_REACH }
+        self.triples.load(&settings, rest);
+        let beside = self.triples.beside();
+        let near = std::array::from_fn(|f| self.joined[f] | beside[f]);
+        self.fields = fields;
+        self.hood = neighbourhoods(fields, &near, reach);
+        self.whole = reach >= WHOLE_REACH;
     }
 
     /// The mask of every field.
@@ -144,26 +150,27 @@ pub fn most_settings(numbers: &[u32]) -> usize {
     counts.max().unwrap_or(0)
 }
 
-fn neighbourhoods(fields: usize, joined: &[u32; MOST], reach: u32) -> [u32; MOST] {
+/// The neighbourhoods of fields that have these beside them.
+fn neighbourhoods(fields: usize, near: &[u32; MOST], reach: u32) -> [u32; MOST] {
     let mut hood = [0; MOST];
-    for (f, near) in hood[..fields].iter_mut().enumerate() {
-        *near = if reach >= WHOLE_REACH { (1 << fields) - 1 } else { fields_within(joined, reach, f) };
+    for (f, within) in hood[..fields].iter_mut().enumerate() {
+        *within = if reach >= WHOLE_REACH { (1 << fields) - 1 } else { fields_within(near, reach, f) };
     }
     hood
 }
 
-/// The fields at most `reach` rules away from f.
-fn fields_within(joined: &[u32; MOST], reach: u32, f: usize) -> u32 {
-    let mut near = 1 << f;
-    let mut frontier = near;
+/// The fields at most `reach` steps away from f.
+fn fields_within(near: &[u32; MOST], reach: u32, f: usize) -> u32 {
+    let mut within = 1 << f;
+    let mut frontier = within;
     for _ in 0..reach {
-        frontier = members(frontier).fold(0, |next, g| next | joined[g]) & !near;
+        frontier = members(frontier).fold(0, |next, g| next | near[g]) & !within;
         if frontier == 0 {
             break;
         }
-        near |= frontier;
+        within |= frontier;
     }
-    near
+    within
 }
 
 /// The positions of the ones of a mask, rising.

@@ -85,8 +85,8 @@ impl<D: Changing> Pairs<D> {
 }
 
 impl<D: Changing> Ac3 for Pairs<D> {
-    fn load(&mut self, numbers: &[u32]) -> Network {
-        self.tables.load(numbers)
+    fn load(&mut self, numbers: &[u32], network: &mut Network) {
+        self.tables.load(numbers, network);
     }
 
     fn close(&self, network: &Network, domains: &mut Domains, within: u32, changed: u32) -> Option<u32> {

@@ -1,6 +1,6 @@
 //! Sheets read and written in plain Rust, with one grammar for bytes and for lists of numbers. A refusal is the number of its cause.
 
-use crate::{Domains, MOST, WHOLE_REACH};
+use crate::{Domains, MOST, MOST_TRIPLES, WHOLE_REACH};
 use belaykeel::raw::{Answer, LARGEST_SETTING, SHEET_NUMBERS};
 
 /// What is known of a sheet beside its list of numbers.
@@ -153,6 +153,39 @@ impl<S: Source, E: FnMut(u32)> Grammar<S, E> {
         Ok(pair + 1)
     }
 
+    /// A triple whose fields are at least `least`, where three fields are one number. What the next are at least.
+    fn triple(&mut self, fields: usize, least: u32) -> Result<u32, u32> {
+        let last_field = fields as u32 - 1;
+        let i = self.take(0, last_field)?;
+        let j = self.take(0, last_field)?;
+        if i >= j {
+            return Err(4);
+        }
+        let k = self.take(0, last_field)?;
+        let three = (i * MOST as u32 + j) * MOST as u32 + k;
+        if j >= k || three < least {
+            return Err(4);
+        }
+        self.take(0, LARGEST_SETTING)?;
+        Ok(three + 1)
+    }
+
+    /// What follows the rules: nothing, or a count and so many triples.
+    fn triples(&mut self, fields: usize) -> Result<(), u32> {
+        if self.source.ended() {
+            return Ok(());
+        }
+        let mut least = 0;
+        for _ in 0..self.take(1, MOST_TRIPLES)? {
+            least = self.triple(fields, least)?;
+        }
+        if self.source.ended() {
+            Ok(())
+        } else {
+            Err(5)
+        }
+    }
+
     fn sheet(&mut self) -> Result<Outline, u32> {
         let fields = self.take(1, MOST as u32)? as usize;
         let mut outline = Outline { fields, full: [0; MOST] };
@@ -164,11 +197,8 @@ impl<S: Source, E: FnMut(u32)> Grammar<S, E> {
         for _ in 0..self.take(0, 276)? {
             least = self.rule(&outline, least)?;
         }
-        if self.source.ended() {
-            Ok(outline)
-        } else {
-            Err(5)
-        }
+        self.triples(fields)?;
+        Ok(outline)
     }
 }
 
@@ -183,15 +213,17 @@ pub fn outline(numbers: &[u32]) -> Result<Outline, u32> {
     check(List(numbers), |_| ())
 }
 
-/// Reads a sheet's bytes in one pass, four at a time, to the front of a list with room for the longest sheet. A refused sheet may leave a
-/// part of itself there.
+/// Reads a sheet's bytes in one pass, four at a time, to the front of a list with room for the longest sheet, and puts a 0 after it, where
+/// a sheet that ends after its rules has no count of triples. A refused sheet may leave a part of itself there.
 pub fn read_at_once(sheet: &[u8], numbers: &mut [u32]) -> Result<Outline, u32> {
     assert!(numbers.len() >= SHEET_NUMBERS);
     let mut length = 0;
-    check(Words(Bytes(sheet)), |number| {
+    let outline = check(Words(Bytes(sheet)), |number| {
         numbers[length] = number;
         length += 1;
-    })
+    })?;
+    numbers[length..].iter_mut().take(1).for_each(|word| *word = 0);
+    Ok(outline)
 }
 
 fn refused(number: u32) -> Answer {

@@ -20,13 +20,13 @@ impl Default for Tables {
 }
 
 impl Tables {
-    /// Fills the tables from an accepted list of numbers.
-    pub fn load(&mut self, numbers: &[u32]) -> Network {
-        Network::read(numbers, |rule| {
+    /// Fills the tables and the network from an accepted list of numbers.
+    pub fn load(&mut self, numbers: &[u32], network: &mut Network) {
+        network.read(numbers, |rule| {
             let rows = rule.forward();
             self.rows[rule.i * SIDE + rule.j] = rows;
             self.rows[rule.j * SIDE + rule.i] = rule.turned(&rows);
-        })
+        });
     }
 
     /// The rows of (g, f), where a rule joins these fields.

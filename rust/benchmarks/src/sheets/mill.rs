@@ -54,7 +54,7 @@ impl Mill {
         let mut rules = self.chain(&mut random, &middle);
         rules.extend(self.tables(&mut random));
         rules.sort_unstable_by_key(|rule| (rule.i, rule.j));
-        Sheet { settings: all, reach: WHOLE_REACH, rules }
+        Sheet { settings: all, reach: WHOLE_REACH, rules, triples: vec![] }
     }
 
     /// For each pass the gap in the middle of its settings; each is an eighth to a quarter below the one before.

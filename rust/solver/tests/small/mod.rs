@@ -1,10 +1,10 @@
 //! Small random sheets.
 
 use random::Random;
-use solver::{Rule, Set, Sheet, MOST};
+use solver::{Rule, Set, Sheet, Triple, MOST};
 
-/// At most five fields and nine settings in all.
-pub fn small_sheet(random: &mut Random) -> Sheet {
+/// At most five fields and nine settings in all, and at most so many triples.
+pub fn small_sheet(random: &mut Random, most_triples: usize) -> Sheet {
     let n = 2 + random.below(4);
     let mut left = 9 - n;
     let mut settings: Vec<Vec<u32>> = vec![];
@@ -24,7 +24,19 @@ pub fn small_sheet(random: &mut Random) -> Sheet {
         };
         rules.push(Rule { i, j, kind, numbers });
     }
-    Sheet { settings, reach: [1, 1, 2, 3, 24][random.below(5)], rules }
+    let triples = triples(random, n, most_triples, 5);
+    Sheet { settings, reach: [1, 1, 2, 3, 24][random.below(5)], rules, triples }
+}
+
+/// At most so many triples of n fields, each with a number c below the end.
+pub fn triples(random: &mut Random, n: usize, most: usize, end: usize) -> Vec<Triple> {
+    let every = (0..n).flat_map(|i| (i + 1..n).flat_map(move |j| (j + 1..n).map(move |k| (i, j, k))));
+    let mut triples: Vec<Triple> = every.map(|(i, j, k)| Triple { i, j, k, c: random.below(end) as u32 }).collect();
+    let count = random.below(most + 1);
+    while triples.len() > count {
+        triples.remove(random.below(triples.len()));
+    }
+    triples
 }
 
 /// The settings of a set: fields and positions.

@@ -1,5 +1,6 @@
-//! SAC-1 over AC-4 with a fault: Figure 2 of source document 004 in plain numbers.
+//! SAC-1 over AC-4 with a fault: Figure 2 of source document 004 in plain numbers. Triples are asked where the removal list is empty.
 
+use super::triples::{neighbours, Asked};
 use super::Fault;
 use solver::{Network, Set, Sheet, MOST};
 use std::collections::{BTreeMap, VecDeque};
@@ -42,6 +43,9 @@ impl State {
 struct Ac4<'a> {
     sheet: &'a Sheet,
     network: &'a Network,
+    start: &'a Set,
+    /// For each field the mask of its neighbourhood.
+    near: Vec<u32>,
     support: BTreeMap<Setting, Vec<Setting>>,
     fault: Option<Fault>,
 }
@@ -74,6 +78,19 @@ impl Ac4<'_> {
         state
     }
 
+    /// Closes: empties the list and drops what triples do not support, until neither is left to do.
+    fn close(&self, state: &mut State, within: u32) {
+        let asked = Asked { sheet: self.sheet, full: &self.network.full, start: self.start, within, fault: self.fault };
+        loop {
+            self.prune_ac(state, within);
+            let unsupported = asked.unsupported(&state.set);
+            if unsupported.is_empty() {
+                return;
+            }
+            unsupported.into_iter().for_each(|setting| state.move_out(setting));
+        }
+    }
+
     /// Empties the list. Only settings of the fields `within` are dropped.
     fn prune_ac(&self, state: &mut State, within: u32) {
         while let Some((j, b)) = state.list.pop_front() {
@@ -92,7 +109,7 @@ impl Ac4<'_> {
     fn passes(&self, state: &mut State, (f, v): Setting) -> bool {
         let mut copy = state.clone();
         positions(state.set[f]).filter(|&a| a != v).for_each(|a| copy.move_out((f, a)));
-        self.prune_ac(&mut copy, neighbourhood(self.network, self.sheet.reach, f));
+        self.close(&mut copy, self.near[f]);
         let passed = !self.network.wiped_out(&copy.set);
         if self.has(Fault::TestCountsKept) {
             state.counter = copy.counter;
@@ -103,16 +120,18 @@ impl Ac4<'_> {
 
 /// The offers of a start set.
 pub fn offers(sheet: &Sheet, network: &Network, start: Set, visited: &[u8], fault: Option<Fault>) -> Set {
-    let mut ac4 = Ac4 { sheet, network, support: [].into(), fault };
+    let neighbours = neighbours(sheet, fault);
+    let near = (0..sheet.fields()).map(|f| neighbourhood(&neighbours, sheet.reach, f)).collect();
+    let mut ac4 = Ac4 { sheet, network, start: &start, near, support: [].into(), fault };
     let mut state = ac4.initialize_ac(start);
-    ac4.prune_ac(&mut state, sheet.all_fields());
+    ac4.close(&mut state, sheet.all_fields());
     loop {
         let before = state.set;
         for f in visited.iter().map(|&f| usize::from(f)) {
             for v in positions(before[f]) {
                 if state.set[f] >> v & 1 == 1 && !ac4.passes(&mut state, (f, v)) {
                     state.move_out((f, v));
-                    ac4.prune_ac(&mut state, sheet.all_fields());
+                    ac4.close(&mut state, sheet.all_fields());
                 }
             }
         }

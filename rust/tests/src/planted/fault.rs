@@ -94,10 +94,28 @@ pub enum Fault {
     ListedTwice,
     /// The counts of a test are kept for the main ones.
     TestCountsKept,
+    /// p + r is compared with q, not with 2 q.
+    MiddleOnce,
+    /// A triple allows every p + r above 2 q.
+    AnySumAbove,
+    /// A triple allows every p + r below 2 q.
+    AnySumBelow,
+    /// A triple does not make its fields neighbours.
+    TriplesNotNear,
+    /// A triple is ignored where a field of it is outside the neighbourhood.
+    OutsideIgnored,
+    /// A partner in a field outside the neighbourhood must be in the set.
+    OutsideInSet,
+    /// A partner in a field outside the neighbourhood must not be struck.
+    OutsideNotStruck,
+    /// The order of the triples is judged at j, as far as i and j decide it.
+    OrderAtSecond,
+    /// A count of 0 triples is read.
+    ZeroTriples,
 }
 
 impl Fault {
-    pub const ALL: [Fault; 49] = [
+    pub const ALL: [Fault; 58] = [
         Fault::Restores,
         Fault::RecordsOnly,
         Fault::OnlyCloses,
@@ -147,5 +165,14 @@ impl Fault {
         Fault::DroppedUnlisted,
         Fault::ListedTwice,
         Fault::TestCountsKept,
+        Fault::MiddleOnce,
+        Fault::AnySumAbove,
+        Fault::AnySumBelow,
+        Fault::TriplesNotNear,
+        Fault::OutsideIgnored,
+        Fault::OutsideInSet,
+        Fault::OutsideNotStruck,
+        Fault::OrderAtSecond,
+        Fault::ZeroTriples,
     ];
 }

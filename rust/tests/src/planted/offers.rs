@@ -8,6 +8,21 @@ use belaykeel::Session;
 use solver::session::ledger;
 use solver::{reading, Call, Network, Set, Sheet, ENCODER_TOLERANCE, MOST};
 
+/// The faults of the engine that counts.
+const COUNTING: [Fault; 11] = [
+    Fault::CountsStruck,
+    Fault::DroppedUnlisted,
+    Fault::ListedTwice,
+    Fault::TestCountsKept,
+    Fault::MiddleOnce,
+    Fault::AnySumAbove,
+    Fault::AnySumBelow,
+    Fault::TriplesNotNear,
+    Fault::OutsideIgnored,
+    Fault::OutsideInSet,
+    Fault::OutsideNotStruck,
+];
+
 impl Planted {
     /// Spoils the offers that an accepted call wrote.
     pub(super) fn spoil_offers(&mut self, session: &Session, call: Call, given: &mut Arguments) {
@@ -24,8 +39,7 @@ impl Planted {
             Fault::StaleMemory if given.engine == 2 => self.weaken(session, &sheet, given),
             Fault::TestsAll | Fault::TestsNone | Fault::TestsAmongSelected => self.weaken(session, &sheet, given),
             Fault::ClosesSelected | Fault::ClosesNearby => self.weaken(session, &sheet, given),
-            Fault::CountsStruck | Fault::DroppedUnlisted => self.weaken(session, &sheet, given),
-            Fault::ListedTwice | Fault::TestCountsKept => self.weaken(session, &sheet, given),
+            fault if COUNTING.contains(&fault) => self.weaken(session, &sheet, given),
             Fault::PutsBackAll if given.engine == 3 => self.weaken(session, &sheet, given),
             Fault::ShowTestsAll if call == Call::Show => self.weaken(session, &sheet, given),
             Fault::DecidingTestsAll if matches!(call, Call::Choose(..) | Call::Strike(..)) => self.weaken(session, &sheet, given),
@@ -75,9 +89,7 @@ impl Planted {
             Fault::TestsAmongSelected => testing_among(&network, start, &sheet, selected),
             Fault::ClosesSelected => closing_few(&network, start, &visited, &fields(selected)),
             Fault::ClosesNearby => closing_few(&network, start, &visited, &nearby(&network, selected)),
-            Fault::CountsStruck | Fault::DroppedUnlisted | Fault::ListedTwice | Fault::TestCountsKept => {
-                counting::offers(&sheet, &network, unclosed, &visited, Some(self.fault))
-            }
+            fault if COUNTING.contains(&fault) => counting::offers(&sheet, &network, unclosed, &visited, Some(fault)),
             Fault::PutsBackAll if network.offers(start, selected) == start => start,
             Fault::TestsAll | Fault::ShowTestsAll | Fault::DecidingTestsAll | Fault::PutsBackAll => network.offers(start, all),
             _ => network.offers(start, selected),
@@ -118,10 +130,11 @@ fn closing_few(network: &Network, mut set: Set, visited: &[u8], closed: &[usize]
     }
 }
 
-/// Tests the selected fields until all of their settings pass, where a test sees the rules between selected fields only.
+/// Tests the selected fields until all of their settings pass, where a test sees the rules and triples of selected fields only.
 fn testing_among(network: &Network, mut set: Set, sheet: &Sheet, selected: u32) -> Set {
     let mut seen = sheet.clone();
     seen.rules.retain(|rule| selected >> rule.i & selected >> rule.j & 1 == 1);
+    seen.triples.retain(|triple| triple.fields().iter().all(|f| selected >> f & 1 == 1));
     let seen = Network::of(&seen);
     let every: Vec<usize> = (0..network.fields()).collect();
     loop {
