@@ -1,8 +1,8 @@
 -- What engine 2 remembers: for a setting that passed its test, the settings that the test left in its field's neighbourhood. While the set
 -- holds all of them the test passes, and leaves just them. Assumes nothing.
 use mathlib.Core.Path.{_≡_, refl, sym, ap, _∙_}
-use mathlib.Core.Logic.{⊎-elim}
-use mathlib.Core.Bool.{Bool, true}
+use mathlib.Core.Logic.{_↔_, ⊎-elim}
+use mathlib.Core.Bool.{Bool, true, false}
 use mathlib.Core.List.{List}
 use Prim.Native.Nat.{ℕ, _^_, _≤_, _<_}
 use native.Mathlib.Omega.{arith}
@@ -22,7 +22,25 @@ use Rattle.consistency.specs.Passing.{passesOver}
 use Rattle.consistency.specs.Left.{leftIn, passesOver-again}
 use Rattle.network.specs.Stored.{Stored, wordsOf}
 use Rattle.closing.specs.Asks.{Masks}
+use Rattle.visiting.specs.declared.store.CheckResult.{CheckResult}
+use Rattle.visiting.specs.declared.store.CheckResult.the-variants.{Recalled, Passed, Failed}
 use Rattle.visiting.specs.Memory.{placeOf, places-apart, recall, recall-same, recall-other}
+
+-- that the setting passes
+abbrev pub passing : CheckResult → Bool
+passing Recalled = true
+passing Passed = true
+passing Failed = false
+
+-- that it was not tested
+abbrev pub isRecalled : CheckResult → Bool
+isRecalled Recalled = true
+isRecalled Passed = false
+isRecalled Failed = false
+
+-- the engine remembers, the setting is known, and S has all that the memory has at its place
+abbrev pub Recallable : Bool → List ℕ → List ℕ → ℕ → ℕ → List ℕ → Type 0
+Recallable remembers known M f v S = (remembers ≡ true) × (has known f v ≡ true) × (recall M (placeOf f v) ⊆ S)
 
 module _ (P : Problem) where
   -- ---- what is remembered of one setting
@@ -145,8 +163,12 @@ module _ (P : Problem) where
   -- ---- the test with the memory
 
   -- Whether the setting passes, and what the memory has become. Where the engine remembers, a setting that passed is known, and the masks
-  -- at its place are what its test leaves in the neighbourhood, whether or not it was tested again.
-  pub record Checked (hood S : List ℕ) (remembers : Bool) (f v : ℕ) (ok : Bool) (known M : List ℕ) : Type 0 where
-    pub passed : ok ≡ passesOver P (getD hood f 0) S f v
-    pub store : Store hood S known M
-    pub kept : remembers ≡ true → ok ≡ true → (has known f v ≡ true) × (recall M (placeOf f v) ≡ leftIn P (getD hood f 0) S f v)
+  -- at its place are what its test leaves in the neighbourhood, whether or not it was tested again. It is recalled, and not tested again,
+  -- just where that can be told by what is remembered; then nothing is written.
+  pub record Checked (hood S : List ℕ) (remembers : Bool) (f v : ℕ) (r : CheckResult) (known M copy list known′ M′ copy′ list′ : List ℕ)
+      : Type 0 where
+    pub passed : passing r ≡ passesOver P (getD hood f 0) S f v
+    pub store : Store hood S known′ M′
+    pub kept : remembers ≡ true → passing r ≡ true → (has known′ f v ≡ true) × (recall M′ (placeOf f v) ≡ leftIn P (getD hood f 0) S f v)
+    pub recalled : (isRecalled r ≡ true) ↔ Recallable remembers known M f v S
+    pub untouched : isRecalled r ≡ true → (known′ ≡ known) × (M′ ≡ M) × (copy′ ≡ copy) × (list′ ≡ list)

@@ -11,7 +11,7 @@ ghost use Rattle.network.specs.TripleTable.{problemOf};
 ghost use Rattle.network.specs.Stored.{Stored, wordsOf};
 ghost use Rattle.closing.specs.Asks.{Masks, LiveAsks, Counted};
 ghost use Rattle.visiting.specs.Memory.{placeOf, recall};
-ghost use Rattle.visiting.specs.Store.{HoodAsks, Store, Checked};
+ghost use Rattle.visiting.specs.Store.{HoodAsks, Store, Recallable, Checked};
 use closing::test::test;
 use limits::COUNTER_WORDS;
 use limits::FIELDS;
@@ -44,14 +44,22 @@ fn intact(memory: &[u32], base: usize, m: &[u32; FIELDS]) -> bool
     lack == 0
 }
 
-// Whether position v of field f passed a test, and m still holds all that is remembered of it.
-fn recalled(m: &[u32; FIELDS], known: &[u32; FIELDS], memory: &[u32], f: usize, v: usize) -> bool
+// Whether the engine remembers, position v of field f passed a test, and m still holds all that is remembered of it.
+fn recalled(
+    remembers: bool,
+    m: &[u32; FIELDS],
+    known: &[u32; FIELDS],
+    memory: &[u32],
+    f: usize,
+    v: usize,
+) -> bool
     requires { ⌜ (f < mostFields) × (v < mostSettings) × (memoryWords ≤ length (now memory)) × Masks (now m) ⌝ }
-    ensures { λ r. ⌜ (r ≡ true) ↔ ((has (now (known .entry)) f v ≡ true)
-        × (recall (now (memory .entry)) (placeOf f v) ⊆ now (m .entry))) ⌝ }
+    ensures { λ r. ⌜ (r ≡ true) ↔ Recallable remembers (now (known .entry)) (now (memory .entry)) f v (now (m .entry)) ⌝ }
 {
-    if has_bit(known[f], v) {
-        return intact(memory, place(f, v), m);
+    if remembers {
+        if has_bit(known[f], v) {
+            return intact(memory, place(f, v), m);
+        }
     }
     false
 }
@@ -69,6 +77,13 @@ fn remember(memory: &mut [u32], hood: &[u32; FIELDS], f: usize, v: usize, left: 
         memory[base + h] = left[h] & flood(within, h);
         h += 1;
     }
+}
+
+// What is found of a setting: it is recalled that it passes, or it was tested.
+pub enum CheckResult {
+    Recalled,
+    Passed,
+    Failed,
 }
 
 // Whether position v of field f passes in the set m over f's neighbourhood. With `remembers`, what a passed test left in the neighbourhood
@@ -91,7 +106,7 @@ pub fn check<'a, 'n>(
     forward: &'a [u32],
     turned: &'a [u32],
     triples: &[u32],
-) -> bool
+) -> CheckResult
     requires { ⌜ LiveAsks n (now joined) (now forward) (now turned) (now triples) (now m)
         × Store (problemOf n (now joined) (now forward) (now turned) (now triples)) (now hood) (now m) (now known) (now memory) ⌝ }
     requires { ⌜ HoodAsks (problemOf n (now joined) (now forward) (now turned) (now triples)) (now hood) f × (has (now m) f v ≡ true) ⌝ }
@@ -99,15 +114,14 @@ pub fn check<'a, 'n>(
         (now list) (now m) ⌝ }
     ensures { λ r. ⌜ Checked (problemOf n (now (joined .entry)) (now (forward .entry)) (now (turned .entry)) (now (triples .entry)))
         (now (hood .entry))
-        (now (m .entry)) remembers f v r (now (known .exit)) (now (memory .exit))
+        (now (m .entry)) remembers f v r (now (known .entry)) (now (memory .entry)) (now (copy .entry)) (now (list .entry))
+        (now (known .exit)) (now (memory .exit)) (now (copy .exit)) (now (list .exit))
         × Counted (problemOf n (now (joined .entry)) (now (forward .entry)) (now (turned .entry)) (now (triples .entry)))
         (now (support .entry))
         (now (counter .entry)) (now (copy .exit)) (now (list .exit)) (now (m .entry)) ⌝ }
 {
-    if remembers {
-        if recalled(m, known, memory, f, v) {
-            return true;
-        }
+    if recalled(remembers, m, known, memory, f, v) {
+        return CheckResult::Recalled;
     }
     let mut left = *m;
     if !test(
@@ -125,11 +139,11 @@ pub fn check<'a, 'n>(
         turned,
         triples,
     ) {
-        return false;
+        return CheckResult::Failed;
     }
     if remembers {
         remember(memory, hood, f, v, &left);
         known[f] |= one_bit(v);
     }
-    true
+    CheckResult::Passed
 }

@@ -7,6 +7,7 @@ ghost use Rattle.network.specs.Network.{problemIn};
 ghost use Rattle.closing.specs.Asks.{LiveAsks, Counted};
 ghost use Rattle.visiting.specs.Store.{HoodAsks, Store};
 ghost use Rattle.visiting.specs.Visit.{Visited};
+use super::store::CheckResult;
 use super::store::check;
 use closing::close::Narrowed;
 use closing::test::remove;
@@ -54,7 +55,7 @@ pub fn visit<'a>(
     while left != 0 {
         let v = lowest_bit(left);
         left = clear_bit(left, v);
-        if !check(
+        let found = check(
             m,
             known,
             memory,
@@ -71,7 +72,8 @@ pub fn visit<'a>(
             forward,
             turned,
             triples,
-        ) {
+        );
+        if let CheckResult::Failed = found {
             let r = remove(
                 m,
                 n,

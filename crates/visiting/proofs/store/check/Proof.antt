@@ -1,5 +1,5 @@
 -- `check` trusts what is remembered while the set holds all of it, and else tests.
-use mathlib.Core.Path.{sym, ap, _∙_}
+use mathlib.Core.Path.{refl, sym, ap, _∙_}
 use mathlib.Core.Bool.{true≢false}
 use Prim.Native.Nat.{_<_}
 use native.Mathlib.Omega.{arith}
@@ -19,7 +19,7 @@ placed s = let l = place-bound _ _ _ _ _ _ (s .pre .0 .0) _ _ (s .pre .1 .0 .1) 
 
 recalled-requires : tie.Need-recalled-requires
 recalled-requires c κs =
-    let s = c .before .before .before .before .before .before .before in
+    let s = c .before .before .before .before .before .before in
     let l = placed s in
     (l .0, l .1, s .pre .0 .1 .long, s .pre .0 .0 .masks)
 
@@ -28,32 +28,48 @@ same-length c = search needs
 
 returns : tie.Need-returns
 returns c =
-    let s = c .before .before .before .before .before .before .before .before .before in
-    let r = c .before .recalled .ensures .0 (c .if2 .taken) in
-    let m = remembered-passes _ _ _ _ _ _ (s .pre .0 .1 .keeps _ _ (r .0)) (r .1) in
-    (record { passed = sym (m .0); store = s .pre .0 .1; kept = λ _ _. (r .0, m .1) }, s .pre .1 .1)
+    let s = c .before .before .before .before .before .before .before .before in
+    let asked = c .before .recalled .ensures in
+    let r = asked .0 (c .if1 .taken) in
+    let m = remembered-passes _ _ _ _ _ _ (s .pre .0 .1 .keeps _ _ (r .1)) (r .2) in (
+      record {
+        passed = sym (m .0);
+        store = s .pre .0 .1;
+        kept = λ _ _. (r .1, m .1);
+        recalled = (λ _. r, λ _. refl);
+        untouched = λ _. (refl, refl, refl, refl);
+      },
+      s .pre .1 .1,
+    )
 
+-- nothing told that the setting passes, so it is tested
 mul-test : tie.Need-mul-test
-mul-test c = let l = placed (c .before .before .before .before .before .before .before) .0 in omega arith
+mul-test c = let l = placed (c .before .before .before .before .before .before .before .before .before .before) .0 in omega arith
 
 element-copy-out-test : tie.Need-element-copy-out-test
-element-copy-out-test c = placed (c .before .before .before .before .before .before .before) .0
+element-copy-out-test c = placed (c .before .before .before .before .before .before .before .before .before .before) .0
 
 test-requires : tie.Need-test-requires
 test-requires c κs =
-    let s = c .before .before .before .before .before .before .before .before .before .before .pre in
+    let s = c .before .before .before .before .before .before .before .before .before .before .before .before .before .pre in
     let h = s .1 .0 .0 in
     ((s .0 .0, s .1 .0 .1, h .fields, h .self), s .1 .1)
 
+same-length-2 : tie.Need-same-length-2
+same-length-2 c = search needs
+
 returns-2 : tie.Need-returns-2
 returns-2 c =
-    let s = c .before .before .before .before .before .before .before .before .before .before .before .before in
+    let s = c .before .before .before .before .before .before .before .before .before .before .before .before .before .before .before in
+    let asked = c .before .before .before .before .before .before .before .before .recalled .ensures in
     let t = c .before .test in
-    let failed = not-true (t .result) (c .if3 .taken) in (
+    let failed = not-true (t .result) (c .if2 .taken) in (
       record {
         passed = sym failed ∙ t .ensures .0 .passed;
         store = s .pre .0 .1;
         kept = λ _ e. absurd (true≢false (sym e));
+        recalled = (λ e. absurd (true≢false (sym e)), λ q. absurd (never (asked .1 q) (c .before .before .before .before .before .before .before .if1 .left)));
+        untouched = λ e. absurd (true≢false (sym e));
       },
       t .ensures .1,
     )
@@ -61,45 +77,46 @@ returns-2 c =
 remember-requires : tie.Need-remember-requires
 remember-requires c κs =
     let test = c .before .before .before .before in
-    let s = test .before .before .before .before .before .before .before .before .before .before .before in
+    let s = test .before .before .before .before .before .before .before .before .before .before .before .before .before .before in
     let l = placed s in
     let t = test .test in
-    let ok = not-false (t .result) (c .before .before .before .if3 .left) in
+    let ok = not-false (t .result) (c .before .before .before .if2 .left) in
     (l .0, l .1, s .pre .0 .1 .long, tested-masks _ _ _ _ _ _ (s .pre .0 .0) (t .ensures .0) ok)
 
 one-bit-requires : tie.Need-one-bit-requires
 one-bit-requires c κs =
     let test = c .before .before .before .before .before .before .before in
-    let l = placed (test .before .before .before .before .before .before .before .before .before .before .before) in
+    let l = placed (test .before .before .before .before .before .before .before .before .before .before .before .before .before .before) in
     omega arith
 
 mul-known : tie.Need-mul-known
 mul-known c =
     let test = c .before .before .before .before .before .before .before .before in
-    let l = placed (test .before .before .before .before .before .before .before .before .before .before .before) .0 in
+    let l = placed (test .before .before .before .before .before .before .before .before .before .before .before .before .before .before) .0 in
     omega arith
 
 element-copy-out-known : tie.Need-element-copy-out-known
 element-copy-out-known c =
     let test = c .before .before .before .before .before .before .before .before in
-    placed (test .before .before .before .before .before .before .before .before .before .before .before) .0
+    placed (test .before .before .before .before .before .before .before .before .before .before .before .before .before .before) .0
 
 element-write-known : tie.Need-element-write-known
 element-write-known c =
     let test = c .before .before .before .before .before .before .before .before .before in
-    placed (test .before .before .before .before .before .before .before .before .before .before .before) .0
+    placed (test .before .before .before .before .before .before .before .before .before .before .before .before .before .before) .0
 
-same-length-2 : tie.Need-same-length-2
-same-length-2 c = c .before .before .before .before .remember .ensures .sized
+same-length-3 : tie.Need-same-length-3
+same-length-3 c = c .before .before .before .before .remember .ensures .sized
 
 returns-3 : tie.Need-returns-3
 returns-3 c =
     let passed = c .before .before .before .before .before .before .before .before in
     let test = passed .before in
-    let s = test .before .before .before .before .before .before .before .before .before .before .before in
+    let asked = test .before .before .before .before .before .before .before in
+    let s = test .before .before .before .before .before .before .before .before .before .before .before .before .before .before in
     let t = test .test in
     let l = placed s in
-    let ok = not-false (t .result) (passed .if3 .left) in
+    let ok = not-false (t .result) (passed .if2 .left) in
     let d = t .ensures .0 in
     let stored = c .before .before .before .before .remember .ensures in
     let sized = length-restrict _ _ ∙ tested-masks _ _ _ _ _ _ (s .pre .0 .0) d ok .long in
@@ -113,18 +130,29 @@ returns-3 c =
           rw (c .before .one-bit .ensures) (known-added _ _ _ _ _ (s .pre .0 .1) _ _ (l .0) (l .1)),
           memory-same _ _ _ _ _ (s .pre .0 .1) _ _ (l .0) (l .1) _ sized _ stored ∙ rest,
         );
+        recalled = (
+          λ e. absurd (true≢false (sym e)),
+          λ q. absurd (never (asked .recalled .ensures .1 q) (test .before .before .before .before .before .before .if1 .left)),
+        );
+        untouched = λ e. absurd (true≢false (sym e));
       },
       t .ensures .1,
     )
 
+same-length-4 : tie.Need-same-length-4
+same-length-4 c = search needs
+
 returns-4 : tie.Need-returns-4
 returns-4 c =
-    let s = c .before .before .before .before .before .before .before .before .before .before .before .before .before in
+    let s = c .before .before .before .before .before .before .before .before .before .before .before .before .before .before .before .before in
+    let asked = c .before .before .before .before .before .before .before .before .before .recalled .ensures in
     let t = c .before .before .test in (
       record {
-        passed = sym (not-false (t .result) (c .before .if3 .left)) ∙ t .ensures .0 .passed;
+        passed = sym (not-false (t .result) (c .before .if2 .left)) ∙ t .ensures .0 .passed;
         store = s .pre .0 .1;
-        kept = λ e _. absurd (never e (c .if4 .left));
+        kept = λ e _. absurd (never e (c .if3 .left));
+        recalled = (λ e. absurd (true≢false (sym e)), λ q. absurd (never (asked .1 q) (c .before .before .before .before .before .before .before .before .if1 .left)));
+        untouched = λ e. absurd (true≢false (sym e));
       },
       t .ensures .1,
     )
@@ -139,12 +167,14 @@ check-spec =
     mul-test
     element-copy-out-test
     test-requires
+    same-length-2
     returns-2
     remember-requires
     one-bit-requires
     mul-known
     element-copy-out-known
     element-write-known
-    same-length-2
+    same-length-3
     returns-3
+    same-length-4
     returns-4)

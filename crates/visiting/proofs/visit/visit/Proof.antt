@@ -1,18 +1,23 @@
 -- `visit` tests the settings of a field, and removes those that fail.
-use mathlib.Core.Path.{_≡_, refl, sym, _∙_}
-use mathlib.Core.Bool.{true≢false}
+use mathlib.Core.Path.{_≡_, refl, sym, ap, _∙_}
+use mathlib.Core.Bool.{true, true≢false}
+use mathlib.Core.List.{[], _∷_}
 use Prim.Native.Nat.{_<_}
 use native.Mathlib.Omega.{arith}
 use borrow.Author.Needs.{needs}
-use borrow.Author.Tests.{not-true, not-false}
+use types.Run.{OneOf, miss}
+use denote.Enum.Declared.{tagOf}
 use lib.Bits.{and-le-l}
 use lib.ListN.{length, getD}
 use Rattle.limits.specs.Limits.{mostFields}
 use Rattle.masks.specs.Words.{clear-lt}
 use Rattle.network.specs.Network.{problemIn}
 use Rattle.closing.specs.Asks.{Counted, asks-shrunk}
-use Rattle.visiting.specs.Store.{Store, store-shrunk}
+use Rattle.visiting.specs.declared.store.CheckResult.{CheckResult}
+use Rattle.visiting.specs.declared.store.CheckResult.the-variants.{Recalled, Passed, Failed}
+use Rattle.visiting.specs.Store.{passing, Store, store-shrunk}
 use Rattle.visiting.specs.Visit.{Visiting, visiting-start, visiting-has, visiting-pass, visiting-none, visiting-fail, visiting-end}
+use Rattle.visiting.proofs.store.CheckResult.{the-type}
 use Rattle.visiting.proofs.visit.visit.Statement.{statement}
 use Rattle.visiting.proofs.visit.visit.Tie as tie
 
@@ -27,6 +32,12 @@ abbrev μ-loop : tie.MeasureT-loop
 μ-loop m₀ known₀ memory₀ remembers f counter₀ copy₀ support list₀ forward turned triples net n touched₀ left₀
     m known memory counter copy list touched left =
     left
+
+-- a result other than a failure
+other : (r : CheckResult) → OneOf (0 ∷ 1 ∷ []) (tagOf the-type r) → passing r ≡ true
+other Recalled h = refl
+other Passed h = refl
+other Failed h = absurd (miss (0 ∷ 1 ∷ []) 2 tt h)
 
 -- the field is one of those a set has a mask for
 low : (s : tie.Start Inv-loop μ-loop) → s .args .f < mostFields
@@ -58,9 +69,12 @@ check-requires c κs =
       ((p .1 .0 .1, visiting-has _ _ _ _ _ _ _ _ (i .0) (v .lowest-bit .ensures .0 .set)), i .3),
     )
 
+enum-told : tie.Need-enum-told Inv-loop μ-loop
+enum-told c = search needs
+
 remove-requires : tie.Need-remove-requires Inv-loop μ-loop
 remove-requires c κs =
-    let check = c .before .before .before .before .before .before .before .before .before in
+    let check = c .before .before .before .before .before .before .before .before .before .before in
     let v = check .before .before .before .before .before .before .before .before .before .before .before in
     let loop = v .before .before in
     let i = loop .loop .inv .0 in (
@@ -73,38 +87,38 @@ remove-requires c κs =
 
 same-length : tie.Need-same-length Inv-loop μ-loop
 same-length c =
-    let check = c .before .before .before .before .before .before .before .before .before .before .before in
+    let check = c .before .before .before .before .before .before .before .before .before .before .before .before in
     let loop = check .before .before .before .before .before .before .before .before .before .before .before .before .before in
     check .check .kept .1 .1 .0 ∙ loop .loop .inv .2
 
 returns : tie.Need-returns Inv-loop μ-loop
 returns c =
     let failed = c .before .before .before .before .before .before .before .before in
-    let check = failed .before .before .before in
+    let check = failed .before .before .before .before in
     let loop = check .before .before .before .before .before .before .before .before .before .before .before .before .before in
-    let fails = sym (check .check .ensures .0 .passed) ∙ not-true (check .check .result) (failed .if1 .taken) in (
-      visiting-none _ _ _ _ _ _ _ _ (loop .loop .inv .0) fails _ _ (rw (c .if2 .taken) at (c .before .remove .ensures .0)) _,
+    let fails = sym (check .check .ensures .0 .passed) ∙ ap passing (failed .enum-told .given .1) in (
+      visiting-none _ _ _ _ _ _ _ _ (loop .loop .inv .0) fails _ _ (rw (c .if1 .taken) at (c .before .remove .ensures .0)) _,
       (λ e. absurd (true≢false e)),
       (λ e. absurd (true≢false e)),
     )
 
 mul-left-2 : tie.Need-mul-left-2 Inv-loop μ-loop
 mul-left-2 c =
-    let check = c .before .before .before .before .before .before .before .before .before .before .before .before in
+    let check = c .before .before .before .before .before .before .before .before .before .before .before .before .before in
     let loop = check .before .before .before .before .before .before .before .before .before .before .before .before .before in
     let l = low (loop .before .before .before .before .before .before) in
     omega arith
 
 element-copy-out-left-2 : tie.Need-element-copy-out-left-2 Inv-loop μ-loop
 element-copy-out-left-2 c =
-    let check = c .before .before .before .before .before .before .before .before .before .before .before .before in
+    let check = c .before .before .before .before .before .before .before .before .before .before .before .before .before in
     let loop = check .before .before .before .before .before .before .before .before .before .before .before .before .before in
     low (loop .before .before .before .before .before .before)
 
 loop-less : tie.Need-loop-less Inv-loop μ-loop
 loop-less c =
     let removed = c .before .before .before in
-    let check = removed .before .before .before .before .before .before .before .before .before .before in
+    let check = removed .before .before .before .before .before .before .before .before .before .before .before in
     let clear = check .before .before .before .before .before .before .before .before .before .before in
     let l = clear-lt _ _ (clear .before .lowest-bit .ensures .0 .set) in
     let e = clear .clear-bit .ensures in
@@ -116,16 +130,16 @@ loop-again : tie.Need-loop-again Inv-loop μ-loop
 loop-again c =
     let removed = c .before .before .before in
     let failed = removed .before .before .before .before .before .before .before in
-    let check = failed .before .before .before in
+    let check = failed .before .before .before .before in
     let clear = check .before .before .before .before .before .before .before .before .before .before in
     let loop = clear .before .before .before in
-    let fails = sym (check .check .ensures .0 .passed) ∙ not-true (check .check .result) (failed .if1 .taken) in
+    let fails = sym (check .check .ensures .0 .passed) ∙ ap passing (failed .enum-told .given .1) in
     let gone = removed .remove .ensures in
-    let lost = rw (c .before .before .if2 .left) at (gone .0) in (
+    let lost = rw (c .before .before .if1 .left) at (gone .0) in (
       rw (clear .clear-bit .ensures) (visiting-fail _ _ _ _ _ _ _ _ (loop .loop .inv .0) fails _ _ lost),
       store-shrunk _ (lost .sized) (lost .shrunk refl .inside) (check .check .ensures .0 .store),
       check .check .kept .1 .1 .0 ∙ loop .loop .inv .2,
-      gone .1 (c .before .before .if2 .left),
+      gone .1 (c .before .before .if1 .left),
     )
 
 loop-less-2 : tie.Need-loop-less-2 Inv-loop μ-loop
@@ -138,7 +152,7 @@ loop-again-2 c =
     let check = c .before .before .before in
     let clear = check .before .before .before .before .before .before .before .before .before .before in
     let loop = clear .before .before .before in
-    let passes = sym (check .check .ensures .0 .passed) ∙ not-false (check .check .result) (c .if1 .left) in (
+    let passes = sym (check .check .ensures .0 .passed) ∙ other (check .check .result) (c .match .keys2) in (
       rw (clear .clear-bit .ensures) (visiting-pass _ _ _ _ _ _ _ _ (loop .loop .inv .0) passes),
       check .check .ensures .0 .store,
       check .check .kept .1 .1 .0 ∙ loop .loop .inv .2,
@@ -164,6 +178,7 @@ visit-spec =
     lowest-bit-requires
     clear-bit-requires
     check-requires
+    enum-told
     remove-requires
     same-length
     returns
