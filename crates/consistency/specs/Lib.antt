@@ -2,6 +2,7 @@ pub mod Largest
 pub mod Runs
 pub mod Problem
 pub mod Triples
+pub mod TwoInside
 pub mod Closing
 pub mod Neighbourhood
 pub mod Passing
