@@ -34,6 +34,19 @@ pub refused-numbers : (refusal (ofNumbers (25 ∷ [])) ≡ 3) × (refusal (ofNum
 unfolding refusalFrom pick advance
 refused-numbers = (refl, refl, refl, refl)
 
+-- the refusals of lists that differ in one number
+pub eachRefusal : (ℕ → List ℕ) → List ℕ → List ℕ
+eachRefusal list [] = []
+eachRefusal list (x ∷ xs) = refusal (ofNumbers (list x)) ∷ eachRefusal list xs
+
+-- both ends of each range, spelled: fields, settings of a field, reach, rules. What is in its range is not refused before the list ends
+pub ends-of-ranges : (eachRefusal (λ x. x ∷ []) (0 ∷ 1 ∷ 24 ∷ 25 ∷ []) ≡ 3 ∷ 1 ∷ 1 ∷ 3 ∷ [])
+    × (eachRefusal (λ x. 1 ∷ x ∷ []) (0 ∷ 1 ∷ 24 ∷ 25 ∷ []) ≡ 3 ∷ 1 ∷ 1 ∷ 3 ∷ [])
+    × (eachRefusal (λ x. 1 ∷ 1 ∷ 5 ∷ x ∷ []) (0 ∷ 1 ∷ 24 ∷ 25 ∷ []) ≡ 3 ∷ 1 ∷ 1 ∷ 3 ∷ [])
+    × (eachRefusal (λ x. 2 ∷ 1 ∷ 5 ∷ 1 ∷ 5 ∷ 24 ∷ x ∷ []) (0 ∷ 1 ∷ 276 ∷ 277 ∷ []) ≡ 0 ∷ 1 ∷ 1 ∷ 3 ∷ [])
+unfolding eachRefusal refusalFrom pick advance
+ends-of-ranges = (refl, refl, refl, refl)
+
 -- ---- the largest setting and the largest c (02, request 3)
 
 -- One field with the setting x, and two fields with a rule of a kind with c. Their other numbers have one group, so that this is a list of
@@ -138,6 +151,10 @@ other-twos = (refl, refl)
 abbrev four : List ℕ → List ℕ
 four ys = 4 ∷ 1 ∷ 0 ∷ 1 ∷ 0 ∷ 1 ∷ 0 ∷ 1 ∷ 0 ∷ 24 ∷ 0 ∷ ys
 
+-- the same with five fields, and two triples
+abbrev five : List ℕ → List ℕ
+five ys = 5 ∷ 1 ∷ 0 ∷ 1 ∷ 0 ∷ 1 ∷ 0 ∷ 1 ∷ 0 ∷ 1 ∷ 0 ∷ 24 ∷ 0 ∷ 2 ∷ ys
+
 abbrev both : List ℕ → ℕ × ℕ
 both ys = (writerRefusal (four ys), unread (four ys))
 
@@ -168,6 +185,14 @@ pub triples-out-of-order : (both (1 ∷ 1 ∷ 1 ∷ []) ≡ (4, 4)) × (both (1 
     × (both (2 ∷ 0 ∷ 1 ∷ 2 ∷ 5 ∷ 0 ∷ 1 ∷ 2 ∷ []) ≡ (4, 4))
 unfolding refusalFrom retiredFrom items numberAt groups pick advance
 triples-out-of-order = (refl, refl, refl, refl, refl, refl, refl, refl)
+
+-- they rise by i, then j, then k: of five fields, k falls where j rises, and the other way round
+pub triples-by-first : (refusal (ofNumbers (five (0 ∷ 1 ∷ 4 ∷ 5 ∷ 0 ∷ 2 ∷ 3 ∷ 5 ∷ []))) ≡ 0)
+    × (refusal (ofNumbers (five (0 ∷ 2 ∷ 3 ∷ 5 ∷ 0 ∷ 1 ∷ 4 ∷ 5 ∷ []))) ≡ 4)
+    × (refusal (ofNumbers (five (0 ∷ 3 ∷ 4 ∷ 5 ∷ 1 ∷ 2 ∷ 3 ∷ 5 ∷ []))) ≡ 0)
+    × (refusal (ofNumbers (five (1 ∷ 2 ∷ 3 ∷ 5 ∷ 0 ∷ 3 ∷ 4 ∷ 5 ∷ []))) ≡ 4)
+unfolding refusalFrom pick advance
+triples-by-first = (refl, refl, refl, refl)
 
 -- a triple that cannot rise any more is not refused before k: the list ends after i, and after j
 pub triples-judged-at-third : (both (2 ∷ 1 ∷ 2 ∷ 3 ∷ 5 ∷ 0 ∷ []) ≡ (1, 1)) × (both (2 ∷ 1 ∷ 2 ∷ 3 ∷ 5 ∷ 0 ∷ 1 ∷ []) ≡ (1, 1))

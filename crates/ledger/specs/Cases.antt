@@ -85,6 +85,28 @@ unheld = record { decisions = []; events = happened CHOOSE ∷ []; selected = 3 
 abbrev strange : ℕ → Ledger
 strange kind = record { decisions = []; events = happened kind ∷ []; selected = 3 }
 
+-- sheet D with spaces of so many words
+abbrev lent : ℕ → ℕ → ℕ → Given
+lent offers rows memory = record { sheet = D; engine = 1; order = rising; offers = offers; rows = rows; memory = memory }
+
+-- a strike in force, and an odd number of events: 63 or 65
+abbrev odd : ℕ → Ledger
+odd n = record { decisions = strike 0 0 ∷ []; events = happened STRIKE ∷ pastOf n; selected = 3 }
+
+-- the ends of the limits of a call, spelled: 24, 13,248 and 13,824 words are enough and one less is not; event 64 is taken and event 65 is
+-- not; 65 events are too many
+pub ends-of-limits : (number (lent 24 13248 13824) Show (opened 3) ≡ 0) × (number (lent 23 13248 13824) Show (opened 3) ≡ 6)
+    × (number (lent 24 13247 13824) Show (opened 3) ≡ 6) × (number (lent 24 13248 13823) Show (opened 3) ≡ 6)
+    × (number (lent 24 13248 13824) (decides WITHDRAW-STRIKE 0 0) (odd 31) ≡ 0)
+    × (number (lent 24 13248 13824) (decides STRIKE 1 0) full ≡ 12) × (number (lent 24 13248 13824) Show full ≡ 0)
+    × (number (lent 24 13248 13824) Show (odd 32) ≡ 15)
+unfolding pastOf wipedOut offers stays isSelected passesOver noneEmpty neighbourhood fieldsWithin linked listTriples widen allFields
+    closing supported supportedBy partner largest sweeps sweep someEmpty empty cut same count only countBits countIn someBit someIn
+    keepBits keepIn maskOf bit has pad someBelow allBelow tabulate occurrences number first causes judged malformed noEngine isOrder
+    spaceShort noSelection reversible allOnSheet onSheet inForce sameDecision without changeBy backed step otherChosen starts startSet
+    offersOf wiped outlineOf refusalFrom numbers items numberAt groups pick advance fieldStart ruleStart sheetProblem runs pairs
+ends-of-limits = (refl, refl, refl, refl, refl, refl, refl, refl)
+
 -- Sheet D has two fields and `narrow` has one: 3 and 1 select all.
 pub order-of-causes :
     -- 6 before 1, and 1 before 15 and 18
