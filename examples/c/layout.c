@@ -1,5 +1,5 @@
-/* The library's layout of a session, in bytes: it reads and writes the parts at these offsets. rust/belaykeel/src/session.rs holds Rust
- * callers to the same. */
+/* The layout of a session and of an answer, in bytes: the library reads and writes the parts at these offsets. rust/belaykeel/src/session.rs
+ * holds Rust callers to the same of a session. That the library keeps to it is seen where thin_coil.c prints the parts. */
 #include "belaykeel.h"
 
 #define AT(type, part, offset) _Static_assert(offsetof(type, part) == (offset), #part " of " #type)
@@ -16,3 +16,7 @@ AT(belaykeel_event, kind, 0);
 AT(belaykeel_event, field, 4);
 AT(belaykeel_event, position, 8);
 SIZE(belaykeel_event, 12);
+
+AT(belaykeel_answer, number, 0);
+AT(belaykeel_answer, length, 8);
+SIZE(belaykeel_answer, 16);
