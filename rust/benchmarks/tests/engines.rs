@@ -86,7 +86,7 @@ fn tests_are_counted_as_defined() {
         let every: Vec<usize> = (0..sheet.fields()).collect();
         let closed = network.closing(job.start, &every);
         let visited: Vec<u8> = job.order.iter().copied().filter(|f| job.selected >> f & 1 == 1).collect();
-        let counted = |trusted: fn(&Set, &Set) -> bool| sac2(&network, closed, &visited, trusted).1;
+        let counted = |trusted: fn(&Set, &Set) -> bool| sac2(&network, closed, &visited, trusted).tests;
         let (_, tests) = solve(&sheet, &job);
         assert_eq!(tests, [counted(|_, _| false), counted(includes)], "{job:?}");
         let saves = if sheet.reach < WHOLE_REACH { &mut at_short_reach } else { &mut at_reach_24 };

@@ -111,6 +111,11 @@ impl Network {
         near
     }
 
+    /// The fields of a field's neighbourhood at the sheet's reach.
+    pub fn near(&self, f: usize) -> &[usize] {
+        &self.neighbourhoods[f]
+    }
+
     /// Whether the setting has, under each rule that joins its field to one of these, an allowed partner in the set, and under each triple
     /// of its field an allowed pair of partners.
     fn supported(&self, set: &Set, fields: &[usize], f: usize, v: usize) -> bool {

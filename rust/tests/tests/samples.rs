@@ -72,7 +72,7 @@ fn one_field_selected() {
     let every: Vec<usize> = (0..page.fields()).collect();
     let all = network.offers(network.full, page.all_fields());
     let fields: Vec<u8> = (0..8).collect();
-    let tests = |selected: &[u8]| sac2(&network, network.closing(network.full, &every), selected, |_, _| false).1;
+    let tests = |selected: &[u8]| sac2(&network, network.closing(network.full, &every), selected, |_, _| false).tests;
     assert_eq!((tests(&[7]), tests(&fields)), (5, 50));
     for field in 0..8 {
         let offers = network.offers(network.full, 1 << field);

@@ -85,7 +85,7 @@ impl Planted {
             Fault::TestsNone if selected != all => start,
             Fault::OnePass => one_pass(&network, start, &visited),
             Fault::ShortQueue => short_queue(&network, start, &visited),
-            Fault::StaleMemory => sac2(&network, start, &visited, |_, _| true).0,
+            Fault::StaleMemory => sac2(&network, start, &visited, |_, _| true).set,
             Fault::TestsAmongSelected => testing_among(&network, start, &sheet, selected),
             Fault::ClosesSelected => closing_few(&network, start, &visited, &fields(selected)),
             Fault::ClosesNearby => closing_few(&network, start, &visited, &nearby(&network, selected)),
