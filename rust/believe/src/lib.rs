@@ -1,19 +1,23 @@
 //! The definitions that a reader must believe: all that the public contracts and the theorems that answer the demands reach.
 //! A reached definition reaches the names of its type and of its body; a theorem only those of its statement.
+//! And what is checked of the documents (`documents`).
 
 #![forbid(unsafe_code)]
 
+pub mod documents;
+pub mod list;
 pub mod reach;
 pub mod read;
 
+use list::entries;
 use reach::Reach;
 use std::path::{Path, PathBuf};
 
 /// The directories below `crates/` whose public functions have contracts for a caller.
 const CONTRACTS: &[&str] = &["belaykeel/src/", "calls/src/", "printing/src/"];
 
-/// What it is that a call goes as the ledger says.
-const AGREES: (&str, &str) = ("theorem/specs/Follows.antt", "Agrees");
+/// What it is that a call goes as the ledger says, and when a setting is not tested again.
+const PROMISES: &[(&str, &str)] = &[("theorem/specs/Follows.antt", "Agrees"), ("visiting/specs/Store.antt", "Checked")];
 
 /// The theorems that answer the demands, by file below `crates/`.
 const STATEMENTS: &[(&str, &str)] = &[
@@ -45,6 +49,7 @@ const STATEMENTS: &[(&str, &str)] = &[
     ("consistency/specs/AllSelected.antt", "all-tested-is offers-all-selected"),
     ("consistency/specs/Order.antt", "offers-more-selected"),
     ("consistency/specs/Left.antt", "passes-again"),
+    ("consistency/specs/TwoInside.antt", "offers-two-inside"),
     ("consistency/specs/Neighbourhood.antt", "neighbourhood-walk neighbourhood-whole"),
     ("closing/specs/Figure2.antt", "listed-once listed-was-lost initialized-enters-once initialized-nothing-else"),
     ("closing/specs/Figure2.antt", "pruned-enters-once pruned-nothing-else pruned-counts counted-exact"),
@@ -55,43 +60,37 @@ pub fn repository() -> PathBuf {
     Path::new(env!("CARGO_MANIFEST_DIR")).join("../..")
 }
 
+/// The page that has the list **Believe**; empty where it cannot be read.
+pub fn page() -> String {
+    std::fs::read_to_string(repository().join("docs/ARCHITECTURE.md")).unwrap_or_default()
+}
+
 /// All that is reached in the crates of the repository.
 pub fn reach() -> Reach {
     let mut reach = Reach::new(&repository().join("crates"));
     CONTRACTS.iter().for_each(|directory| reach.contracts(directory));
-    reach.name(AGREES.0, AGREES.1, false);
+    PROMISES.iter().for_each(|(file, name)| reach.name(file, name, false));
     for (file, names) in STATEMENTS {
         names.split(' ').for_each(|name| reach.name(file, name, true));
     }
     reach
 }
 
-/// A row of the table: its file, the names in backticks, and what they say.
-pub type Row = (String, Vec<String>, String);
-
-/// The rows of the table after the line that begins with `**Believe**`.
-pub fn rows(page: &str) -> Vec<Row> {
-    let after = page.lines().skip_while(|line| !line.starts_with("**Believe**")).skip_while(|line| !line.starts_with('|'));
-    let table = after.take_while(|line| line.starts_with('|')).map(|line| line.split('|').map(str::trim).collect::<Vec<_>>());
-    let quoted = |cell: &str| cell.split('`').skip(1).step_by(2).map(str::to_string).collect::<Vec<_>>();
-    let rows = table.filter(|cells| cells.len() > 3 && cells[1].starts_with('`'));
-    rows.map(|cells| (quoted(cells[1]).concat(), quoted(cells[2]), cells[3].to_string())).collect()
-}
-
 /// A line for each name that is reached and not listed, or listed and not reached, and for what could not be looked up.
 pub fn differences(reach: &Reach, page: &str) -> Vec<String> {
-    let (reached, rows) = (reach.names(), rows(page));
+    let (reached, entries) = (reach.names(), entries(page));
     let mut found: Vec<String> = reach.unknown.iter().cloned().collect();
     for (file, names) in &reached {
-        let listed = |name: &String| rows.iter().any(|row| row.0 == *file && row.1.contains(name));
+        let listed = |name: &String| entries.iter().any(|entry| entry.file == *file && entry.names.contains(name));
         let missing = names.iter().filter(|name| !listed(name));
-        found.extend(missing.map(|name| format!("reached and not listed: add `{name}` to the row of `{file}`")));
+        found.extend(missing.map(|name| format!("reached and not listed: add `{name}` to the entry of `{file}`")));
     }
-    for (file, listed, _) in &rows {
-        for name in listed.iter().filter(|name| !reached.get(file).is_some_and(|names| names.contains(name))) {
+    for entry in &entries {
+        let file = &entry.file;
+        for name in entry.names.iter().filter(|name| !reached.get(file).is_some_and(|names| names.contains(name))) {
             let declared = reach.declarations(file).iter().any(|declaration| declaration.name == *name);
             let why = if declared { "not reached" } else { "not declared there" };
-            found.push(format!("listed and {why}: remove `{name}` from the row of `{file}`"));
+            found.push(format!("listed and {why}: remove `{name}` from the entry of `{file}`"));
         }
     }
     found
