@@ -1,5 +1,9 @@
 /* Belaykeel: the offers of a set-up page, kept under choices and strikes that are withdrawn in any order.
  *
+ * The offers are the largest set of settings under the decisions in force that is closed (arc consistent) and in which every setting of a
+ * selected field passes its test (is singleton arc consistent), over neighbourhoods of the sheet's reach; at reach 24 that is the whole
+ * sheet. No call chooses a set-up, and wiped out (14) is the only verdict: offers in every field do not show that a complete set-up exists.
+ *
  * Every call returns 0, or the number of the first cause of its refusal (the table below); a refused call leaves session, offers list and
  * output as they were, and one refused by 6 the work spaces too. No call allocates, and none asks anything of its arguments but what C
  * asks: each pointer is valid for its length (and not NULL, even where the length is 0), and what a call writes (session, offers, rows,
@@ -28,8 +32,8 @@ extern "C" {
 #define BELAYKEEL_ROWS_WORDS 13248 /* the least words of the first work space */
 #define BELAYKEEL_MEMORY_WORDS 13824 /* the least words of the second work space */
 
-/* The numbers, in words. They are tried in the order 6; 1 to 5; 15, at open 18 in its place; 7, 9, 10, 11, 13, 12, 14. Writing alone has
- * 20. */
+/* The numbers, in words. The calls with a session try them in the order 6; 1 to 5; 15, at open 18 in its place; 7, 9, 10, 11, 13, 12, 14.
+ * Reading and writing try 1 to 5 first and 6 last; writing alone has 20, directly after 3. */
 enum {
     BELAYKEEL_ACCEPTED = 0,
     BELAYKEEL_ENDS_INSIDE = 1, /* bytes or numbers end inside the sheet */

@@ -1,10 +1,12 @@
 //! The offers of a set-up page, kept under choices and strikes that are withdrawn in any order.
 //!
 //! A [`Sheet`] has fields, their settings, and rules that allow pairs of settings or three in line. A [`Session`] holds the decisions in
-//! force. Each call gives the [`Offers`]: the largest set of settings under these decisions that is singleton arc consistent, over the
-//! whole sheet or over neighbourhoods of its reach. Where not every field is selected at open, it is the largest set that is arc
-//! consistent, and singleton arc consistent in the fields of the [`Selection`]. A call that is refused says why ([`Refusal`]) and changes
-//! nothing.
+//! force. Each call gives the [`Offers`]: the largest set of settings under these decisions that is arc consistent, and singleton arc
+//! consistent in the fields of the [`Selection`] that open was given, over neighbourhoods of the sheet's reach; at reach 24 that is the
+//! whole sheet. A call that is refused says why ([`Refusal`]) and changes nothing.
+//!
+//! No call chooses a set-up, and wiped out ([`Refusal::WipedOut`]) is the only verdict: offers in every field do not show that a complete
+//! set-up exists.
 //!
 //! ```
 //! use belaykeel::{Engine, Order, Refusal, Selection, Session, Sheet, WorkSpaces};
