@@ -1,7 +1,7 @@
 -- Worked cases of the sheet, computed from the definitions. Assumes nothing.
 use mathlib.Core.Path.{_≡_, refl}
 use mathlib.Core.Bool.{Bool, true, false}
-use mathlib.Core.List.{List, [], _∷_, _++_}
+use mathlib.Core.List.{List, [], _∷_, _++_, map}
 use Prim.Native.Nat.{ℕ, _+_}
 use Rattle.masks.specs.Pick.{pick}
 use Rattle.groups.specs.Groups.{groups, numberAt, encode, encodeIn}
@@ -35,16 +35,15 @@ unfolding refusalFrom pick advance
 refused-numbers = (refl, refl, refl, refl)
 
 -- the refusals of lists that differ in one number
-pub eachRefusal : (ℕ → List ℕ) → List ℕ → List ℕ
-eachRefusal list [] = []
-eachRefusal list (x ∷ xs) = refusal (ofNumbers (list x)) ∷ eachRefusal list xs
+abbrev eachRefusal : (ℕ → List ℕ) → List ℕ → List ℕ
+eachRefusal list = map (λ (x : ℕ). refusal (ofNumbers (list x)))
 
 -- both ends of each range, spelled: fields, settings of a field, reach, rules. What is in its range is not refused before the list ends
 pub ends-of-ranges : (eachRefusal (λ x. x ∷ []) (0 ∷ 1 ∷ 24 ∷ 25 ∷ []) ≡ 3 ∷ 1 ∷ 1 ∷ 3 ∷ [])
     × (eachRefusal (λ x. 1 ∷ x ∷ []) (0 ∷ 1 ∷ 24 ∷ 25 ∷ []) ≡ 3 ∷ 1 ∷ 1 ∷ 3 ∷ [])
     × (eachRefusal (λ x. 1 ∷ 1 ∷ 5 ∷ x ∷ []) (0 ∷ 1 ∷ 24 ∷ 25 ∷ []) ≡ 3 ∷ 1 ∷ 1 ∷ 3 ∷ [])
     × (eachRefusal (λ x. 2 ∷ 1 ∷ 5 ∷ 1 ∷ 5 ∷ 24 ∷ x ∷ []) (0 ∷ 1 ∷ 276 ∷ 277 ∷ []) ≡ 0 ∷ 1 ∷ 1 ∷ 3 ∷ [])
-unfolding eachRefusal refusalFrom pick advance
+unfolding refusalFrom pick advance
 ends-of-ranges = (refl, refl, refl, refl)
 
 -- ---- the largest setting and the largest c (02, request 3)
@@ -151,10 +150,6 @@ other-twos = (refl, refl)
 abbrev four : List ℕ → List ℕ
 four ys = 4 ∷ 1 ∷ 0 ∷ 1 ∷ 0 ∷ 1 ∷ 0 ∷ 1 ∷ 0 ∷ 24 ∷ 0 ∷ ys
 
--- the same with five fields, and two triples
-abbrev five : List ℕ → List ℕ
-five ys = 5 ∷ 1 ∷ 0 ∷ 1 ∷ 0 ∷ 1 ∷ 0 ∷ 1 ∷ 0 ∷ 1 ∷ 0 ∷ 24 ∷ 0 ∷ 2 ∷ ys
-
 abbrev both : List ℕ → ℕ × ℕ
 both ys = (writerRefusal (four ys), unread (four ys))
 
@@ -185,6 +180,10 @@ pub triples-out-of-order : (both (1 ∷ 1 ∷ 1 ∷ []) ≡ (4, 4)) × (both (1 
     × (both (2 ∷ 0 ∷ 1 ∷ 2 ∷ 5 ∷ 0 ∷ 1 ∷ 2 ∷ []) ≡ (4, 4))
 unfolding refusalFrom retiredFrom items numberAt groups pick advance
 triples-out-of-order = (refl, refl, refl, refl, refl, refl, refl, refl)
+
+-- five such fields, and two triples
+abbrev five : List ℕ → List ℕ
+five ys = 5 ∷ 1 ∷ 0 ∷ 1 ∷ 0 ∷ 1 ∷ 0 ∷ 1 ∷ 0 ∷ 1 ∷ 0 ∷ 24 ∷ 0 ∷ 2 ∷ ys
 
 -- they rise by i, then j, then k: of five fields, k falls where j rises, and the other way round
 pub triples-by-first : (refusal (ofNumbers (five (0 ∷ 1 ∷ 4 ∷ 5 ∷ 0 ∷ 2 ∷ 3 ∷ 5 ∷ []))) ≡ 0)

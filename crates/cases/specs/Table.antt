@@ -103,7 +103,8 @@ table =
     -- a withdrawal, of a choice (3) or a strike (4), of a field or position that is not on the sheet, and of one that is not in force: none
     -- was made; it was withdrawn; only the other sort is in force, or the same of another field or position
     ∷ calls D every (decides 3 2 0 ∷ decides 4 2 0 ∷ decides 3 0 3 ∷ decides 4 1 3 ∷ []) (0 ∷ 7 ∷ 7 ∷ 7 ∷ 7 ∷ [])
-    ∷ calls D every (decides 3 0 1 ∷ decides 4 0 1 ∷ decides STRIKE 0 0 ∷ decides 4 0 0 ∷ decides 4 0 0 ∷ []) (0 ∷ 11 ∷ 11 ∷ 0 ∷ 0 ∷ 11 ∷ [])
+    ∷ calls D every (decides 3 0 1 ∷ decides 4 0 1 ∷ decides STRIKE 0 0 ∷ decides 4 0 0 ∷ decides 4 0 0 ∷ [])
+    (0 ∷ 11 ∷ 11 ∷ 0 ∷ 0 ∷ 11 ∷ [])
     ∷ shown D every (decides CHOOSE 0 1 ∷ decides 4 0 1 ∷ decides 3 1 1 ∷ decides 3 0 2 ∷ []) (0 ∷ 0 ∷ 11 ∷ 11 ∷ 11 ∷ []) (2 ∷ 1 ∷ [])
     -- one field, one setting
     ∷ shown single every [] (0 ∷ []) (1 ∷ [])
@@ -177,8 +178,8 @@ table =
     -- the second and third field of a triple rule are neighbours too: four fields {1, 2} at reach 1, the first and third differ, the first
     -- three are in line, and the second is selected
     ∷ calls
-    (0x04 ∷ 0x02 ∷ 0x01 ∷ 0x02 ∷ 0x02 ∷ 0x01 ∷ 0x02 ∷ 0x02 ∷ 0x01 ∷ 0x02 ∷ 0x02 ∷ 0x01 ∷ 0x02 ∷ 0x01 ∷ 0x01 ∷ 0x00 ∷ 0x02 ∷ 0x03 ∷ 0x01 ∷ 0x01
-    ∷ 0x00 ∷ 0x01 ∷ 0x02 ∷ 0x00 ∷ [])
+    (0x04 ∷ 0x02 ∷ 0x01 ∷ 0x02 ∷ 0x02 ∷ 0x01 ∷ 0x02 ∷ 0x02 ∷ 0x01 ∷ 0x02 ∷ 0x02 ∷ 0x01 ∷ 0x02
+    ∷ 0x01 ∷ 0x01 ∷ 0x00 ∷ 0x02 ∷ 0x03 ∷ 0x01 ∷ 0x01 ∷ 0x00 ∷ 0x01 ∷ 0x02 ∷ 0x00 ∷ [])
     (these 2) [] (14 ∷ [])
     -- neighbours by a triple rule alone, and by a walk over two of them
     ∷ calls (equalThree 1) (these 1) [] (14 ∷ [])

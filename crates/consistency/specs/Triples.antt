@@ -39,22 +39,30 @@ module _ (P : Problem) where
     pub q-own : T .second ≡ f → q ≡ v
     pub r-own : T .third ≡ f → r ≡ v
 
-  -- what is free for its fields over one mask in one set is free over another in another
+-- ---- support moves where what is free for the triple's fields does: to another problem, mask and set
+
+pub together-from : (P Q : Problem) (W Z : ℕ) (S R : List ℕ) (T : Triple) (f v : ℕ)
+    → ((g : ℕ) → hasField T g ≡ true → (u : ℕ) → (g ≡ f → u ≡ v) → Free P W S g u → Free Q Z R g u)
+    → Together P W S T f v → Together Q Z R T f v
+together-from P Q W Z S R T f v h x = record {
+  p = x .p;
+  q = x .q;
+  r = x .r;
+  p-free = h (T .first) (has-first T) (x .p) (x .p-own) (x .p-free);
+  q-free = h (T .second) (has-second T) (x .q) (x .q-own) (x .q-free);
+  r-free = h (T .third) (has-third T) (x .r) (x .r-own) (x .r-free);
+  fit = x .fit;
+  p-own = x .p-own;
+  q-own = x .q-own;
+  r-own = x .r-own;
+}
+
+module _ (P : Problem) where
+  -- in one problem, whichever the setting
   pub together-free : (W Z : ℕ) (S R : List ℕ) (T : Triple) (f v : ℕ)
-      → ((g : ℕ) → hasField T g ≡ true → (u : ℕ) → Free W S g u → Free Z R g u)
-      → Together W S T f v → Together Z R T f v
-  together-free W Z S R T f v h x = record {
-    p = x .p;
-    q = x .q;
-    r = x .r;
-    p-free = h (T .first) (has-first T) (x .p) (x .p-free);
-    q-free = h (T .second) (has-second T) (x .q) (x .q-free);
-    r-free = h (T .third) (has-third T) (x .r) (x .r-free);
-    fit = x .fit;
-    p-own = x .p-own;
-    q-own = x .q-own;
-    r-own = x .r-own;
-  }
+      → ((g : ℕ) → hasField T g ≡ true → (u : ℕ) → Free P W S g u → Free P Z R g u)
+      → Together P W S T f v → Together P Z R T f v
+  together-free W Z S R T f v h = together-from P P W Z S R T f v (λ g k u _. h g k u)
 
   -- ---- the same as a test
 
@@ -78,11 +86,11 @@ module _ (P : Problem) where
   unfolding takes
   takes-own W S f v g u e q = eqb-true u v (⇒-at (eqb g f) _ (and-l _ _ e) (eq-eqb g f q))
 
-  takes-free : (W : ℕ) (S : List ℕ) (f v g u : ℕ) → has (P .sheet) g u ≡ true → takes W S f v g u ≡ true → Free W S g u
+  takes-free : (W : ℕ) (S : List ℕ) (f v g u : ℕ) → has (P .sheet) g u ≡ true → takes W S f v g u ≡ true → Free P W S g u
   unfolding takes
   takes-free W S f v g u l e = record { listed = l; there = ⇒-at (bit W g) _ (and-r (eqb g f ⇒ eqb u v) _ e) }
 
-  takes-by : (W : ℕ) (S : List ℕ) (f v g u : ℕ) → Free W S g u → (g ≡ f → u ≡ v) → takes W S f v g u ≡ true
+  takes-by : (W : ℕ) (S : List ℕ) (f v g u : ℕ) → Free P W S g u → (g ≡ f → u ≡ v) → takes W S f v g u ≡ true
   unfolding takes
   takes-by W S f v g u x h =
       and-by _ _ (⇒-by (eqb g f) _ (λ e. eq-eqb u v (h (eqb-true g f e)))) (⇒-by (bit W g) _ (x .there))
@@ -90,7 +98,7 @@ module _ (P : Problem) where
   -- positions p, q, r of the three fields that pass the test
   together-of : (W : ℕ) (S : List ℕ) (T : Triple) (f v p q r : ℕ) → has (P .sheet) (T .first) p ≡ true → has (P .sheet) (T .second) q ≡ true
       → has (P .sheet) (T .third) r ≡ true → takes W S f v (T .first) p ≡ true → takes W S f v (T .second) q ≡ true
-      → takes W S f v (T .third) r ≡ true → T .fits p q r ≡ true → Together W S T f v
+      → takes W S f v (T .third) r ≡ true → T .fits p q r ≡ true → Together P W S T f v
   together-of W S T f v p q r a b c x y z e = record {
     p = p;
     q = q;
@@ -104,7 +112,7 @@ module _ (P : Problem) where
     r-own = takes-own W S f v (T .third) r z;
   }
 
-  pub together-at : (W : ℕ) (S : List ℕ) (T : Triple) (f v : ℕ) → together W S T f v ≡ true → Together W S T f v
+  pub together-at : (W : ℕ) (S : List ℕ) (T : Triple) (f v : ℕ) → together W S T f v ≡ true → Together P W S T f v
   unfolding together secondFits thirdFits has
   together-at W S T f v e =
       let a = someBit-at (getD (P .sheet) (T .first) 0) (λ p. takes W S f v (T .first) p && secondFits W S T f v p) e in
@@ -113,19 +121,19 @@ module _ (P : Problem) where
     where
       two : (p q : ℕ) → bit (getD (P .sheet) (T .first) 0) p ≡ true → takes W S f v (T .first) p ≡ true
           → bit (getD (P .sheet) (T .second) 0) q ≡ true → takes W S f v (T .second) q ≡ true
-          → someBit (getD (P .sheet) (T .third) 0) (λ r. takes W S f v (T .third) r && T .fits p q r) ≡ true → Together W S T f v
+          → someBit (getD (P .sheet) (T .third) 0) (λ r. takes W S f v (T .third) r && T .fits p q r) ≡ true → Together P W S T f v
       two p q a x b y e =
           let c = someBit-at (getD (P .sheet) (T .third) 0) (λ r. takes W S f v (T .third) r && T .fits p q r) e in
           together-of W S T f v p q (c .0) a b (c .1) x y (and-l _ _ (c .2)) (and-r (takes W S f v (T .third) (c .0)) _ (c .2))
 
       one : (p : ℕ) → bit (getD (P .sheet) (T .first) 0) p ≡ true → takes W S f v (T .first) p ≡ true
           → someBit (getD (P .sheet) (T .second) 0) (λ q. takes W S f v (T .second) q && thirdFits W S T f v p q) ≡ true
-          → Together W S T f v
+          → Together P W S T f v
       one p a x e =
           let b = someBit-at (getD (P .sheet) (T .second) 0) (λ q. takes W S f v (T .second) q && thirdFits W S T f v p q) e in
           two p (b .0) a x (b .1) (and-l _ _ (b .2)) (and-r (takes W S f v (T .second) (b .0)) _ (b .2))
 
-  pub together-by : (W : ℕ) (S : List ℕ) (T : Triple) (f v : ℕ) → Together W S T f v → together W S T f v ≡ true
+  pub together-by : (W : ℕ) (S : List ℕ) (T : Triple) (f v : ℕ) → Together P W S T f v → together W S T f v ≡ true
   unfolding together secondFits thirdFits has
   together-by W S T f v x =
       let p = x .p in

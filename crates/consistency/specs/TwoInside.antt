@@ -14,7 +14,7 @@ use Rattle.masks.specs.Settings.{cut-⊆}
 use Rattle.consistency.specs.Largest.{IsLargest, IsLargest-iff}
 use Rattle.consistency.specs.Problem.{Triple, noTriple, hasField, has-first, has-second, has-third, field-cases, Problem, tripleAt}
 use Rattle.consistency.specs.Problem.{In, allFields, in-allFields}
-use Rattle.consistency.specs.Triples.{Free, Together}
+use Rattle.consistency.specs.Triples.{Free, Together, together-from}
 use Rattle.consistency.specs.Closing.{Closed}
 use Rattle.consistency.specs.Passing.{PassesOver, witness-at, witness-by, left}
 use Rattle.consistency.specs.Offers.{PartiallyConsistent, offers, offers-is}
@@ -55,12 +55,13 @@ was-next true T Ks Ts h zero l = (0, omega arith, refl)
 was-next true T Ks Ts h (suc t) l = let r = h t (omega arith) in (suc (r .0), omega (arith, r .1), r .2)
 was-next false T Ks Ts h t l = let r = h t l in (suc (r .0), omega (arith, r .1), r .2)
 
-kept-next : (b : Bool) (T : Triple) (Ks Ts : List Triple) (s : ℕ) → (s ≡ 0 → b ≡ true)
-    → ((r : ℕ) → s ≡ suc r → Stands Ts r Ks) → s < length (T ∷ Ts) → Stands (T ∷ Ts) s (cond b (T ∷ Ks) Ks)
-kept-next true T Ks Ts zero e h l = (0, omega arith, refl)
-kept-next false T Ks Ts zero e h l = absurd (never (e refl) refl)
-kept-next true T Ks Ts (suc s) e h l = let r = h s refl in (suc (r .0), omega (arith, r .1), r .2)
-kept-next false T Ks Ts (suc s) e h l = h s refl
+kept-here : (b : Bool) (T : Triple) (Ks Ts : List Triple) → b ≡ true → Stands (T ∷ Ts) 0 (cond b (T ∷ Ks) Ks)
+kept-here true T Ks Ts e = (0, omega arith, refl)
+kept-here false T Ks Ts e = absurd (never e refl)
+
+kept-there : (b : Bool) (T : Triple) (Ks Ts : List Triple) (s : ℕ) → Stands Ts s Ks → Stands (T ∷ Ts) (suc s) (cond b (T ∷ Ks) Ks)
+kept-there true T Ks Ts s r = (suc (r .0), omega (arith, r .1), r .2)
+kept-there false T Ks Ts s r = r
 
 module _ (W : ℕ) where
   kept-was : (Ts : List Triple) (t : ℕ) → t < length (withTwoIn W Ts) → Stands (withTwoIn W Ts) t Ts
@@ -71,11 +72,8 @@ module _ (W : ℕ) where
   kept : (Ts : List Triple) (s : ℕ) → s < length Ts → twoIn W (getD Ts s noTriple) ≡ true → Stands Ts s (withTwoIn W Ts)
   unfolding withTwoIn
   kept [] s l e = absurd (omega arith)
-  kept (T ∷ Ts) zero l e = kept-next (twoIn W T) T (withTwoIn W Ts) Ts zero (λ _. e) (λ r q. absurd (omega arith)) l
-  kept (T ∷ Ts) (suc s) l e =
-      let r = kept Ts s (omega arith) e in
-      kept-next (twoIn W T) T (withTwoIn W Ts) Ts (suc s) (λ q. absurd (omega arith))
-      (λ k (q : suc s ≡ suc k). let same : s ≡ k = omega arith in rw (sym same) r) l
+  kept (T ∷ Ts) zero l e = kept-here (twoIn W T) T (withTwoIn W Ts) Ts e
+  kept (T ∷ Ts) (suc s) l e = kept-there (twoIn W T) T (withTwoIn W Ts) Ts s (kept Ts s (omega arith) e)
 
   -- of a triple that is not kept at most one field is in W
   only-own : (T : Triple) (f g : ℕ) → twoIn W T ≡ false → hasField T f ≡ true → bit W f ≡ true → hasField T g ≡ true → bit W g ≡ true
@@ -107,25 +105,9 @@ module _ (W : ℕ) where
       two-three a b =
           never (or-r (bit W (T .first) && bit W (T .second)) _ (or-r (bit W (T .first) && bit W (T .third)) _ (and-by _ _ a b))) n
 
--- ---- support under a triple looks at the sheet's settings only
-
-together-same : (P Q : Problem) → P .sheet ≡ Q .sheet → (W : ℕ) (S : List ℕ) (T : Triple) (f v : ℕ) → Together P W S T f v
-    → Together Q W S T f v
-together-same P Q e W S T f v x = record {
-  p = x .p;
-  q = x .q;
-  r = x .r;
-  p-free = free (T .first) (x .p) (x .p-free);
-  q-free = free (T .second) (x .q) (x .q-free);
-  r-free = free (T .third) (x .r) (x .r-free);
-  fit = x .fit;
-  p-own = x .p-own;
-  q-own = x .q-own;
-  r-own = x .r-own;
-}
-  where
-    free : (g u : ℕ) → Free P W S g u → Free Q W S g u
-    free g u y = record { listed = ap (λ (Z : List ℕ). has Z g u) (sym e) ∙ y .listed; there = y .there }
+-- what a field may take depends on the sheet's settings only, not on the rest of the problem
+free-same : (P Q : Problem) → P .sheet ≡ Q .sheet → (W : ℕ) (S : List ℕ) (g u : ℕ) → Free P W S g u → Free Q W S g u
+free-same P Q e W S g u y = record { listed = ap (λ (Z : List ℕ). has Z g u) (sym e) ∙ y .listed; there = y .there }
 
 -- ---- the tests of the two definitions agree in a set that is closed over every field
 
@@ -142,7 +124,9 @@ module _ (P : Problem) (W : ℕ) (S : List ℕ) (f v : ℕ) where
           rules = x .rules;
           triples = λ t l k.
               let s = kept-was W (P .triples) t l in
-              rw (sym (s .2)) (together-same P Two refl W _ _ g u (x .triples (s .0) (s .1) (rw (sym (s .2)) at k)));
+              rw (sym (s .2)) (together-from P Two W W (left P W S f v) (left P W S f v) (tripleAt P (s .0)) g u
+              (λ a _ b _. free-same P Two refl W (left P W S f v) a b)
+              (x .triples (s .0) (s .1) (rw (sym (s .2)) at k)));
         };
         full = w .full;
       })
@@ -152,25 +136,12 @@ module _ (P : Problem) (W : ℕ) (S : List ℕ) (f v : ℕ) where
     alone : (R : List ℕ) → R ⊆ S → (g u t : ℕ) → has R g u ≡ true → In P W g → t < length (P .triples)
         → hasField (tripleAt P t) g ≡ true → twoIn W (tripleAt P t) ≡ false → Together P W R (tripleAt P t) g u
     alone R h g u t e i l k n =
-        let x = shut g u (h g u e) (in-allFields P g (i .0)) .triples t l k in
-        record {
-          p = x .p;
-          q = x .q;
-          r = x .r;
-          p-free = free (has-first (tripleAt P t)) (x .p-free) (x .p-own);
-          q-free = free (has-second (tripleAt P t)) (x .q-free) (x .q-own);
-          r-free = free (has-third (tripleAt P t)) (x .r-free) (x .r-own);
-          fit = x .fit;
-          p-own = x .p-own;
-          q-own = x .q-own;
-          r-own = x .r-own;
-        }
-      where
-        free : {a b : ℕ} → hasField (tripleAt P t) a ≡ true → Free P (allFields P) S a b → (a ≡ g → b ≡ u) → Free P W R a b
-        free {a} {b} y z own = record {
+        together-from P P (allFields P) W S R (tripleAt P t) g u
+        (λ a y b own z. record {
           listed = z .listed;
           there = λ j. let q = only-own W (tripleAt P t) g a n k (i .1) y j in rw (q, own q) e;
-        }
+        })
+        (shut g u (h g u e) (in-allFields P g (i .0)) .triples t l k)
 
     pub two-inside-passes : PassesOver (twoInside P W) W S f v → PassesOver P W S f v
     two-inside-passes p =
@@ -181,7 +152,9 @@ module _ (P : Problem) (W : ℕ) (S : List ℕ) (f v : ℕ) where
             rules = x .rules;
             triples = λ t l k. ⊎-elim
                 (λ n. let s = kept W (P .triples) t l n in
-                together-same Two P refl W _ _ g u (rw (s .2) at (x .triples (s .0) (s .1) (rw (s .2) k))))
+                together-from Two P W W (left Two W S f v) (left Two W S f v) (tripleAt P t) g u
+                (λ a _ b _. free-same Two P refl W (left Two W S f v) a b)
+                (rw (s .2) at (x .triples (s .0) (s .1) (rw (s .2) k))))
                 (alone (left Two W S f v) (λ a b y. cut-⊆ S f v a b (w .inside a b y)) g u t e i l k)
                 (bool-cases (twoIn W (tripleAt P t)));
           };

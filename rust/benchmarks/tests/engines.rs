@@ -10,7 +10,7 @@ use benchmarks::{Domains, Offers, WHOLE_REACH};
 use random::Random;
 use solver::network::includes;
 use solver::{Network, Rule, Set, Sheet};
-use tests::sac2::sac2;
+use tests::methods::sac2;
 use tests::selections::good;
 use tests::shapes::Size;
 use tests::sheets::unequal;

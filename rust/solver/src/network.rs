@@ -156,7 +156,7 @@ impl Network {
 
     /// What the test of a setting leaves in the fields of the neighbourhood, with 0 for the other fields; nothing where it fails.
     pub fn left(&self, set: &Set, f: usize, v: usize) -> Option<Set> {
-        let near = &self.neighbourhoods[f];
+        let near = self.near(f);
         let mut cut = [0; MOST];
         near.iter().for_each(|&g| cut[g] = set[g]);
         cut[f] &= 1 << v;

@@ -9,7 +9,7 @@ use std::collections::HashMap;
 use std::fs::{read_to_string, File};
 use std::path::Path;
 use std::process::{Command, Stdio};
-use tests::sac2::{queued, sac2};
+use tests::methods::{queued, sac2};
 use tests::shapes::Size;
 use tests::sheets::bytes;
 use tests::{taste, Random};

@@ -5,7 +5,7 @@ use solver::reading::{groups, sheet};
 use solver::{Network, Set};
 use std::fmt::Write;
 use std::fs;
-use tests::sac2::sac2;
+use tests::methods::sac2;
 use tests::text::numbers;
 
 fn sample(ending: &str) -> Vec<u8> {

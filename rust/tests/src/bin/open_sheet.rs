@@ -1,5 +1,5 @@
-//! Opens the sheet of standard input by the engine whose number is given, every field selected, and prints the masks of the offers. The test
-//! *engines* runs it under callgrind.
+//! Opens the sheet of standard input by the engine whose number is given, every field selected, and prints the masks of the offers. The
+//! test *engines* runs it under callgrind.
 
 use belaykeel::{Engine, Order, Selection, Session, Sheet, WorkSpaces};
 use std::error::Error;

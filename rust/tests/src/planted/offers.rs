@@ -2,7 +2,7 @@
 
 use super::{counting, Fault, Planted};
 use crate::linked::words;
-use crate::sac2::sac2;
+use crate::methods::sac2;
 use belaykeel::raw::Arguments;
 use belaykeel::Session;
 use solver::session::ledger;

@@ -1,6 +1,7 @@
 -- `check` trusts what is remembered while the set holds all of it, and else tests.
-use mathlib.Core.Path.{refl, sym, ap, _∙_}
-use mathlib.Core.Bool.{true≢false}
+use mathlib.Core.Path.{_≡_, refl, sym, ap, _∙_}
+use mathlib.Core.Logic.{_↔_}
+use mathlib.Core.Bool.{Bool, true, false, true≢false}
 use Prim.Native.Nat.{_<_}
 use native.Mathlib.Omega.{arith}
 use borrow.Author.Needs.{needs}
@@ -17,6 +18,17 @@ use Rattle.visiting.proofs.store.check.Tie as tie
 placed : (s : tie.Start) → (s .args .f < mostFields) × (s .args .v < mostSettings)
 placed s = let l = place-bound _ _ _ _ _ _ (s .pre .0 .0) _ _ (s .pre .1 .0 .1) in (l .1, l .2)
 
+-- where it was tested: the call's beginning, and that nothing told that it passes
+abbrev started : tie.After-test → tie.Start
+started t = t .before .before .before .before .before .before .before .before .before .before .before .before .before .before
+
+abbrev untold : tie.After-test → tie.Else1
+untold t = t .before .before .before .before .before .before
+
+-- what does not hold is as false as false
+false-iff : {A : Type 0} {b : Bool} → (b ≡ true) ↔ A → b ≡ false → (false ≡ true) ↔ A
+false-iff i n = (λ e. absurd (true≢false (sym e)), λ a. absurd (never (i .1 a) n))
+
 recalled-requires : tie.Need-recalled-requires
 recalled-requires c κs =
     let s = c .before .before .before .before .before .before in
@@ -29,8 +41,7 @@ same-length c = search needs
 returns : tie.Need-returns
 returns c =
     let s = c .before .before .before .before .before .before .before .before in
-    let asked = c .before .recalled .ensures in
-    let r = asked .0 (c .if1 .taken) in
+    let r = c .before .recalled .ensures .0 (c .if1 .taken) in
     let m = remembered-passes _ _ _ _ _ _ (s .pre .0 .1 .keeps _ _ (r .1)) (r .2) in (
       record {
         passed = sym (m .0);
@@ -42,7 +53,6 @@ returns c =
       s .pre .1 .1,
     )
 
--- nothing told that the setting passes, so it is tested
 mul-test : tie.Need-mul-test
 mul-test c = let l = placed (c .before .before .before .before .before .before .before .before .before .before) .0 in omega arith
 
@@ -60,15 +70,14 @@ same-length-2 c = search needs
 
 returns-2 : tie.Need-returns-2
 returns-2 c =
-    let s = c .before .before .before .before .before .before .before .before .before .before .before .before .before .before .before in
-    let asked = c .before .before .before .before .before .before .before .before .recalled .ensures in
+    let told = untold (c .before) in
     let t = c .before .test in
     let failed = not-true (t .result) (c .if2 .taken) in (
       record {
         passed = sym failed ∙ t .ensures .0 .passed;
-        store = s .pre .0 .1;
+        store = started (c .before) .pre .0 .1;
         kept = λ _ e. absurd (true≢false (sym e));
-        recalled = (λ e. absurd (true≢false (sym e)), λ q. absurd (never (asked .1 q) (c .before .before .before .before .before .before .before .if1 .left)));
+        recalled = false-iff (told .before .recalled .ensures) (told .if1 .left);
         untouched = λ e. absurd (true≢false (sym e));
       },
       t .ensures .1,
@@ -77,33 +86,23 @@ returns-2 c =
 remember-requires : tie.Need-remember-requires
 remember-requires c κs =
     let test = c .before .before .before .before in
-    let s = test .before .before .before .before .before .before .before .before .before .before .before .before .before .before in
+    let s = started test in
     let l = placed s in
     let t = test .test in
     let ok = not-false (t .result) (c .before .before .before .if2 .left) in
     (l .0, l .1, s .pre .0 .1 .long, tested-masks _ _ _ _ _ _ (s .pre .0 .0) (t .ensures .0) ok)
 
 one-bit-requires : tie.Need-one-bit-requires
-one-bit-requires c κs =
-    let test = c .before .before .before .before .before .before .before in
-    let l = placed (test .before .before .before .before .before .before .before .before .before .before .before .before .before .before) in
-    omega arith
+one-bit-requires c κs = let l = placed (started (c .before .before .before .before .before .before .before)) in omega arith
 
 mul-known : tie.Need-mul-known
-mul-known c =
-    let test = c .before .before .before .before .before .before .before .before in
-    let l = placed (test .before .before .before .before .before .before .before .before .before .before .before .before .before .before) .0 in
-    omega arith
+mul-known c = let l = placed (started (c .before .before .before .before .before .before .before .before)) .0 in omega arith
 
 element-copy-out-known : tie.Need-element-copy-out-known
-element-copy-out-known c =
-    let test = c .before .before .before .before .before .before .before .before in
-    placed (test .before .before .before .before .before .before .before .before .before .before .before .before .before .before) .0
+element-copy-out-known c = placed (started (c .before .before .before .before .before .before .before .before)) .0
 
 element-write-known : tie.Need-element-write-known
-element-write-known c =
-    let test = c .before .before .before .before .before .before .before .before .before in
-    placed (test .before .before .before .before .before .before .before .before .before .before .before .before .before .before) .0
+element-write-known c = placed (started (c .before .before .before .before .before .before .before .before .before)) .0
 
 same-length-3 : tie.Need-same-length-3
 same-length-3 c = c .before .before .before .before .remember .ensures .sized
@@ -112,8 +111,8 @@ returns-3 : tie.Need-returns-3
 returns-3 c =
     let passed = c .before .before .before .before .before .before .before .before in
     let test = passed .before in
-    let asked = test .before .before .before .before .before .before .before in
-    let s = test .before .before .before .before .before .before .before .before .before .before .before .before .before .before in
+    let told = untold test in
+    let s = started test in
     let t = test .test in
     let l = placed s in
     let ok = not-false (t .result) (passed .if2 .left) in
@@ -130,10 +129,7 @@ returns-3 c =
           rw (c .before .one-bit .ensures) (known-added _ _ _ _ _ (s .pre .0 .1) _ _ (l .0) (l .1)),
           memory-same _ _ _ _ _ (s .pre .0 .1) _ _ (l .0) (l .1) _ sized _ stored ∙ rest,
         );
-        recalled = (
-          λ e. absurd (true≢false (sym e)),
-          λ q. absurd (never (asked .recalled .ensures .1 q) (test .before .before .before .before .before .before .if1 .left)),
-        );
+        recalled = false-iff (told .before .recalled .ensures) (told .if1 .left);
         untouched = λ e. absurd (true≢false (sym e));
       },
       t .ensures .1,
@@ -144,14 +140,14 @@ same-length-4 c = search needs
 
 returns-4 : tie.Need-returns-4
 returns-4 c =
-    let s = c .before .before .before .before .before .before .before .before .before .before .before .before .before .before .before .before in
-    let asked = c .before .before .before .before .before .before .before .before .before .recalled .ensures in
-    let t = c .before .before .test in (
+    let test = c .before .before in
+    let told = untold test in
+    let t = test .test in (
       record {
         passed = sym (not-false (t .result) (c .before .if2 .left)) ∙ t .ensures .0 .passed;
-        store = s .pre .0 .1;
+        store = started test .pre .0 .1;
         kept = λ e _. absurd (never e (c .if3 .left));
-        recalled = (λ e. absurd (true≢false (sym e)), λ q. absurd (never (asked .1 q) (c .before .before .before .before .before .before .before .before .if1 .left)));
+        recalled = false-iff (told .before .recalled .ensures) (told .if1 .left);
         untouched = λ e. absurd (true≢false (sym e));
       },
       t .ensures .1,

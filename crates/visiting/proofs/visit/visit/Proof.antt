@@ -1,8 +1,8 @@
 -- `visit` tests the settings of a field, and removes those that fail.
 use mathlib.Core.Path.{_≡_, refl, sym, ap, _∙_}
 use mathlib.Core.Bool.{true, true≢false}
-use mathlib.Core.List.{[], _∷_}
-use Prim.Native.Nat.{_<_}
+use mathlib.Core.List.{List, [], _∷_}
+use Prim.Native.Nat.{ℕ, _<_}
 use native.Mathlib.Omega.{arith}
 use borrow.Author.Needs.{needs}
 use types.Run.{OneOf, miss}
@@ -33,11 +33,14 @@ abbrev μ-loop : tie.MeasureT-loop
     m known memory counter copy list touched left =
     left
 
--- a result other than a failure
-other : (r : CheckResult) → OneOf (0 ∷ 1 ∷ []) (tagOf the-type r) → passing r ≡ true
+-- every variant but the failure, by its place among them
+abbrev others : List ℕ
+others = 0 ∷ 1 ∷ []
+
+other : (r : CheckResult) → OneOf others (tagOf the-type r) → passing r ≡ true
 other Recalled h = refl
 other Passed h = refl
-other Failed h = absurd (miss (0 ∷ 1 ∷ []) 2 tt h)
+other Failed h = absurd (miss others 2 tt h)
 
 -- the field is one of those a set has a mask for
 low : (s : tie.Start Inv-loop μ-loop) → s .args .f < mostFields
