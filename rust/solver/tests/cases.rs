@@ -1,17 +1,33 @@
 //! The worked cases of the scope paper and of the later requests.
 
 use solver::reading::{groups, read, sheet};
-use solver::{Arguments, Call, Ledger, Network};
+use solver::session::{SELECTED, WORDS};
+use solver::{Arguments, Call, Effect, Network, State};
 
 const SHEET_D: [u8; 19] =
     [0x02, 0x03, 0x64, 0xC8, 0x01, 0xAC, 0x02, 0x03, 0x64, 0xC8, 0x01, 0xAC, 0x02, 0x18, 0x01, 0x00, 0x01, 0x01, 0x64];
 
+/// Engine 1, rising order, and spaces that are just long enough.
+fn plain<'a>(sheet: &'a [u8], order: &'a [u8]) -> Arguments<'a> {
+    Arguments { sheet, engine: 1, order, lengths: [("offers", 24), ("rows", 13_248), ("memory", 13_824)].into() }
+}
+
+/// What the calls do in turn, from a session of 0s.
+fn effects(sheet: &[u8], calls: &[Call]) -> Vec<Effect> {
+    let order: Vec<u8> = (0..sheet[0]).collect();
+    let mut state = State::new(sheet, &[0; WORDS]);
+    let mut make = |call: &Call| {
+        let effect = state.effect(call, &plain(sheet, &order));
+        state = effect.state.clone();
+        effect
+    };
+    calls.iter().map(&mut make).collect()
+}
+
 /// What the calls give in turn: the masks or the number.
 fn answers(sheet: &[u8], calls: &[Call]) -> Vec<Result<Vec<u32>, u32>> {
-    let order: Vec<u8> = (0..sheet[0]).collect();
-    let given = Arguments { sheet, engine: 1, order: &order, offers: 24, rows: 13_248, memory: 13_824 };
-    let mut ledger = Ledger::default();
-    calls.iter().map(|&call| ledger.call(call, &given)).collect()
+    let given = |mut effect: Effect| if effect.number == 0 { Ok(effect.written.remove(0).1) } else { Err(effect.number) };
+    effects(sheet, calls).into_iter().map(given).collect()
 }
 
 /// What the last call gives after an open with every field selected; without a call, what that open gives.
@@ -150,13 +166,10 @@ fn masks_at_open() {
         assert_eq!(opened(&SHEET_D, selected), Err(18));
     }
     assert_eq!(answers(&SHEET_D, &[Show, Open(1), Show]), [Err(15), Ok(vec![6, 3]), Ok(vec![6, 3])]);
-    let order = [0, 1];
-    let given = Arguments { sheet: &SHEET_D, engine: 1, order: &order, offers: 24, rows: 13_248, memory: 13_824 };
-    let mut ledger = Ledger::default();
     let calls =
         [(Open(2), 2), (Strike(0, 2), 2), (Open(0), 2), (Open(4), 2), (CoilOn, 2), (Back, 2), (Show, 2), (Open(3), 3), (Open(1), 1)];
-    for (call, selected) in calls {
-        let accepted = ledger.call(call, &given).is_ok();
-        assert_eq!((accepted, ledger.selected), (![Open(0), Open(4), Back].contains(&call), selected), "{call:?}");
+    let effects = effects(&SHEET_D, &calls.clone().map(|(call, _)| call));
+    for ((call, selected), effect) in calls.into_iter().zip(effects) {
+        assert_eq!((effect.number == 0, effect.state.session[SELECTED]), (![Open(0), Open(4), Back].contains(&call), selected), "{call:?}");
     }
 }
