@@ -1,9 +1,13 @@
-//! The library's calls as they are, on slices: any sheet, order, engine and space can be lent, and each call answers with its number. A
-//! call that gives offers needs about 163,000 bytes of stack; 196,608 bytes are enough.
+//! The library's calls as they are, on slices, with C's parameters in C's order: any sheet, order, engine and space can be lent, and each
+//! call answers with its number. A call that gives offers needs about 163,000 bytes of stack; 196,608 bytes are enough.
+//!
+//! An accepted call writes the n masks of the offers to the front of `offers`. What `rows` and `memory` hold before a call affects no
+//! answer; afterwards they may hold anything, and are as they were where 6 refuses.
 //!
 //! The only file with unsafe code. Every function is safe: the library takes any slices, and those lent here cannot overlap.
 
 use crate::session::Session;
+use core::mem::offset_of;
 
 /// The least words of an offers list.
 pub const OFFERS_WORDS: usize = 24;
@@ -20,23 +24,6 @@ pub const SHEET_NUMBERS: usize = 8_184;
 /// The most bytes of a sheet.
 pub const SHEET_BYTES: usize = 29_273;
 
-/// What every call is given besides the session.
-pub struct Arguments<'a> {
-    /// The sheet's bytes.
-    pub sheet: &'a [u8],
-    /// The number of the engine.
-    pub engine: u32,
-    /// Every field of the sheet just once.
-    pub order: &'a [u8],
-    /// An accepted call writes the n masks to its front.
-    pub offers: &'a mut [u32],
-    /// The first work space. What it holds before the call affects no answer; afterwards it may hold anything, and is as it was where 6
-    /// refuses.
-    pub rows: &'a mut [u32],
-    /// The second work space, as the first.
-    pub memory: &'a mut [u32],
-}
-
 /// What reading and writing answer: 0 and a length, or the number of a refusal and 0.
 #[repr(C)]
 #[derive(Clone, Copy, Debug, PartialEq, Eq)]
@@ -47,71 +34,89 @@ pub struct Answer {
     pub length: usize,
 }
 
-/// Declares a call and its safe wrapper, with a mask of selected fields or a field and a position where the call takes them.
-macro_rules! call {
-    ($about:literal, $name:ident = $symbol:ident($($extra:ident),*)) => {
-        #[doc = $about]
-        pub fn $name(session: &mut Session, given: Arguments $(, $extra: u32)*) -> u32 {
+// The library's layout of an answer, in bytes; examples/c/layout.c holds C callers to the same.
+const _: () = {
+    assert!(offset_of!(Answer, number) == 0);
+    assert!(offset_of!(Answer, length) == 8);
+    assert!(size_of::<Answer>() == 16);
+};
+
+/// The type of a parameter of a sort.
+#[rustfmt::skip]
+macro_rules! slice {
+    (Session) => { &mut Session };
+    (Number) => { u32 };
+    (Sheet) => { &[u8] };
+    (Bytes) => { &[u8] };
+    (Words) => { &[u32] };
+    (WrittenBytes) => { &mut [u8] };
+    (WrittenWords) => { &mut [u32] };
+    (Work) => { &mut [u32] };
+}
+
+/// Its type in C, without the length.
+#[rustfmt::skip]
+macro_rules! pointer {
+    (Session) => { *mut Session };
+    (Number) => { u32 };
+    (Sheet) => { *const u8 };
+    (Bytes) => { *const u8 };
+    (Words) => { *const u32 };
+    (WrittenBytes) => { *mut u8 };
+    (WrittenWords) => { *mut u32 };
+    (Work) => { *mut u32 };
+}
+
+/// What is passed to C, without the length.
+#[rustfmt::skip]
+macro_rules! passed {
+    (Session, $session:ident) => { $session };
+    (Number, $number:ident) => { $number };
+    (Sheet, $sheet:ident) => { $sheet.as_ptr() };
+    (Bytes, $bytes:ident) => { $bytes.as_ptr() };
+    (Words, $words:ident) => { $words.as_ptr() };
+    (WrittenBytes, $bytes:ident) => { $bytes.as_mut_ptr() };
+    (WrittenWords, $words:ident) => { $words.as_mut_ptr() };
+    (Work, $words:ident) => { $words.as_mut_ptr() };
+}
+
+/// Declares each call of the table, and its safe function on slices.
+macro_rules! declare {
+    ($(
+        $(#[$about:meta])*
+        $Call:ident $name:ident $symbol:ident
+            ($($before:ident $($before_len:ident)? : $before_sort:ident),*)
+            $({ $($value:ident $($value_len:ident)? : $sort:ident),* })?
+            ($($after:ident $($after_len:ident)? : $after_sort:ident),*)
+            -> $answer:ident { $($other:ident),* } refused by $([$($number:literal)*])*;
+    )*) => {$(
+        $(#[$about])*
+        #[allow(clippy::too_many_arguments)]
+        pub fn $name(
+            $($before: slice!($before_sort),)*
+            $($($value: slice!($sort),)*)?
+            $($after: slice!($after_sort),)*
+        ) -> $answer {
             extern "C" {
                 fn $symbol(
-                    session: *mut Session,
-                    sheet: *const u8,
-                    sheet_len: usize,
-                    engine: u32,
-                    order: *const u8,
-                    order_len: usize,
-                    $($extra: u32,)*
-                    offers: *mut u32,
-                    offers_len: usize,
-                    rows: *mut u32,
-                    rows_len: usize,
-                    memory: *mut u32,
-                    memory_len: usize,
-                ) -> u32;
+                    $($before: pointer!($before_sort), $($before_len: usize,)?)*
+                    $($($value: pointer!($sort), $($value_len: usize,)?)*)?
+                    $($after: pointer!($after_sort), $($after_len: usize,)?)*
+                ) -> $answer;
             }
-            let Arguments { sheet, engine, order, offers, rows, memory } = given;
+            $($(let $before_len = $before.len();)?)*
+            $($($(let $value_len = $value.len();)?)*)?
+            $($(let $after_len = $after.len();)?)*
             // Each pointer comes from a slice with its length, and no two of the mutable ones overlap.
             unsafe {
                 $symbol(
-                    session,
-                    sheet.as_ptr(),
-                    sheet.len(),
-                    engine,
-                    order.as_ptr(),
-                    order.len(),
-                    $($extra,)*
-                    offers.as_mut_ptr(),
-                    offers.len(),
-                    rows.as_mut_ptr(),
-                    rows.len(),
-                    memory.as_mut_ptr(),
-                    memory.len(),
+                    $(passed!($before_sort, $before), $($before_len,)?)*
+                    $($(passed!($sort, $value), $($value_len,)?)*)?
+                    $(passed!($after_sort, $after), $($after_len,)?)*
                 )
             }
         }
-    };
+    )*};
 }
 
-call!("Starts with no decisions, no events and this mask of selected fields, which the session keeps.", open = belaykeel_open(selected));
-call!("Changes nothing and gives the offers.", show = belaykeel_show());
-call!("Drops the latest event and reverses it.", back = belaykeel_back());
-call!("Drops all events; decisions remain.", coil_on = belaykeel_coil_on());
-call!("Adds a choice.", choose = belaykeel_choose(field, position));
-call!("Adds a strike.", strike = belaykeel_strike(field, position));
-call!("Removes a choice.", withdraw_choice = belaykeel_withdraw_choice(field, position));
-call!("Removes a strike.", withdraw_strike = belaykeel_withdraw_strike(field, position));
-
-extern "C" {
-    fn belaykeel_read(sheet: *const u8, size: usize, output: *mut u32, room: usize) -> Answer;
-    fn belaykeel_write(numbers: *const u32, count: usize, output: *mut u8, room: usize) -> Answer;
-}
-
-/// Reads a sheet's bytes to its list of numbers.
-pub fn read(sheet: &[u8], output: &mut [u32]) -> Answer {
-    unsafe { belaykeel_read(sheet.as_ptr(), sheet.len(), output.as_mut_ptr(), output.len()) }
-}
-
-/// Writes a list of numbers as a sheet's bytes.
-pub fn write(numbers: &[u32], output: &mut [u8]) -> Answer {
-    unsafe { belaykeel_write(numbers.as_ptr(), numbers.len(), output.as_mut_ptr(), output.len()) }
-}
+public_calls::table!(declare);

@@ -2,7 +2,7 @@
 
 use crate::method::{Engine, Order, Selection, WorkSpaces};
 use crate::offers::Offers;
-use crate::raw::{self, Arguments, OFFERS_WORDS};
+use crate::raw::{self, OFFERS_WORDS};
 use crate::refusal::Refusal;
 use crate::sheet::Sheet;
 use core::mem::offset_of;
@@ -80,6 +80,16 @@ impl Default for Session {
     }
 }
 
+/// Makes a call by its function in [`raw`], with these values of its own.
+macro_rules! make {
+    ($session:ident.$name:ident($sheet:ident, $engine:ident, $order:ident, $spaces:ident $(, $value:expr)*)) => {{
+        let (bytes, WorkSpaces { rows, memory }) = ($sheet.as_bytes(), $spaces);
+        let mut offers = [0; OFFERS_WORDS];
+        Refusal::check(raw::$name($session, bytes, $engine.number(), $order.bytes($sheet) $(, $value)*, &mut offers, rows, memory))?;
+        Ok(Offers::new(offers, $sheet.fields()))
+    }};
+}
+
 /// Defines a method for a call, with a field and a position where the call takes them.
 macro_rules! method {
     ($(#[$about:meta])* $name:ident($($extra:ident),*)) => {
@@ -92,34 +102,12 @@ macro_rules! method {
             $($extra: u32,)*
             spaces: &mut WorkSpaces,
         ) -> Result<Offers, Refusal> {
-            self.call(sheet, engine, order, spaces, |session, given| raw::$name(session, given $(, $extra)*))
+            make!(self.$name(sheet, engine, order, spaces $(, $extra)*))
         }
     };
 }
 
 impl Session {
-    /// Makes a call with what it is given.
-    fn call(
-        &mut self,
-        sheet: &Sheet,
-        engine: Engine,
-        order: &Order,
-        spaces: &mut WorkSpaces,
-        call: impl FnOnce(&mut Session, Arguments) -> u32,
-    ) -> Result<Offers, Refusal> {
-        let mut words = [0; OFFERS_WORDS];
-        let given = Arguments {
-            sheet: sheet.as_bytes(),
-            engine: engine.number(),
-            order: order.bytes(sheet),
-            offers: &mut words,
-            rows: &mut spaces.rows,
-            memory: &mut spaces.memory,
-        };
-        Refusal::check(call(self, given))?;
-        Ok(Offers::new(words, sheet.fields()))
-    }
-
     /// Starts with no decisions, no events and this selection, whatever the session held. Later calls use the selection too.
     pub fn open(
         &mut self,
@@ -129,7 +117,7 @@ impl Session {
         selection: &Selection,
         spaces: &mut WorkSpaces,
     ) -> Result<Offers, Refusal> {
-        self.call(sheet, engine, order, spaces, |session, given| raw::open(session, given, selection.mask(sheet)))
+        make!(self.open(sheet, engine, order, spaces, selection.mask(sheet)))
     }
 
     method! {

@@ -1,7 +1,6 @@
-//! The ledger, and the number of a call by the causes in their order.
+//! The ledger and its steps.
 
-use crate::network::{Network, Set};
-use crate::reading;
+use crate::network::Set;
 use crate::sheet::Sheet;
 use std::collections::BTreeSet;
 
@@ -25,28 +24,19 @@ pub enum Event {
     Withdrawn(Decision),
 }
 
-/// The calls: open with a mask of selected fields, others with a field and a position where they have them.
+/// A step of the ledger.
 #[derive(Clone, Copy, Debug, PartialEq, Eq)]
-pub enum Call {
+pub enum Step {
+    /// No decisions, no events, and this mask of selected fields.
     Open(u32),
+    /// No change.
     Show,
-    Choose(u32, u32),
-    Strike(u32, u32),
-    WithdrawChoice(u32, u32),
-    WithdrawStrike(u32, u32),
+    /// The decision of the event comes in or goes out, and the event is added.
+    Add(Event),
+    /// The latest event goes and is reversed.
     Back,
+    /// The events go.
     CoilOn,
-}
-
-/// What every call is given besides the session; of the lent spaces only their lengths.
-#[derive(Clone, Copy, Debug)]
-pub struct Arguments<'a> {
-    pub sheet: &'a [u8],
-    pub engine: u32,
-    pub order: &'a [u8],
-    pub offers: usize,
-    pub rows: usize,
-    pub memory: usize,
 }
 
 /// The mask of selected fields, the decisions in force and the past events, oldest first.
@@ -55,20 +45,6 @@ pub struct Ledger {
     pub selected: u32,
     pub decisions: BTreeSet<Decision>,
     pub events: Vec<Event>,
-}
-
-impl Call {
-    /// The event that the call adds.
-    pub fn event(self) -> Option<Event> {
-        let decision = |sort, field, position| Decision { sort, field, position };
-        match self {
-            Call::Choose(f, v) => Some(Event::Added(decision(Sort::Choice, f, v))),
-            Call::Strike(f, v) => Some(Event::Added(decision(Sort::Strike, f, v))),
-            Call::WithdrawChoice(f, v) => Some(Event::Withdrawn(decision(Sort::Choice, f, v))),
-            Call::WithdrawStrike(f, v) => Some(Event::Withdrawn(decision(Sort::Strike, f, v))),
-            Call::Open(_) | Call::Show | Call::Back | Call::CoilOn => None,
-        }
-    }
 }
 
 impl Event {
@@ -80,13 +56,6 @@ impl Event {
 }
 
 impl Ledger {
-    /// Makes a call: the offers where it is accepted, else its number, and nothing changes.
-    pub fn call(&mut self, call: Call, given: &Arguments) -> Result<Vec<u32>, u32> {
-        let (next, offers) = judge(Some(self), call, given)?;
-        *self = next;
-        Ok(offers)
-    }
-
     /// The set that the decisions leave before anything is tested.
     pub fn start_set(&self, full: &Set) -> Set {
         let mut start = *full;
@@ -106,18 +75,18 @@ impl Ledger {
         start
     }
 
-    /// The ledger after a call's step, or the cause against it: 10, 11, 13 or 12.
-    fn step(&self, call: Call) -> Result<Ledger, u32> {
+    /// The ledger after a step, or the cause against it: 10, 11, 13 or 12.
+    pub fn after(&self, step: Step) -> Result<Ledger, u32> {
         let mut next = self.clone();
-        match call {
-            Call::Open(selected) => next = Ledger { selected, ..Ledger::default() },
-            Call::Show => (),
-            Call::CoilOn => next.events.clear(),
-            Call::Back => {
+        match step {
+            Step::Open(selected) => next = Ledger { selected, ..Ledger::default() },
+            Step::Show => (),
+            Step::Add(event) => next.add(event)?,
+            Step::Back => {
                 let event = next.events.pop().ok_or(13u32)?;
                 next.reverse(event);
             }
-            Call::Choose(..) | Call::Strike(..) | Call::WithdrawChoice(..) | Call::WithdrawStrike(..) => next.add(call.event().unwrap())?,
+            Step::CoilOn => next.events.clear(),
         }
         Ok(next)
     }
@@ -143,7 +112,8 @@ impl Ledger {
         }
     }
 
-    fn malformed(&self, sheet: &Sheet) -> bool {
+    /// Whether it is one that a sheet cannot have.
+    pub fn malformed(&self, sheet: &Sheet) -> bool {
         let on_sheet = |decision: &Decision| sheet.has(decision.field, decision.position);
         let mut past = self.clone();
         self.events.len() > 64
@@ -152,38 +122,4 @@ impl Ledger {
             || !self.events.iter().all(|event| on_sheet(&event.decision()))
             || !self.events.iter().rev().all(|&event| past.reverse(event))
     }
-}
-
-/// The ledger after a call and its offers, or the number of the refusal. Without a ledger the session is malformed. Engine 2 runs at every
-/// reach and 8 is never given: request 2 of 02. Open has 18 where other calls have 15: request 7.
-pub fn judge(held: Option<&Ledger>, call: Call, given: &Arguments) -> Result<(Ledger, Vec<u32>), u32> {
-    if given.offers < 24 || given.rows < 13_248 || given.memory < 13_824 {
-        return Err(6);
-    }
-    let sheet = reading::sheet(given.sheet)?;
-    let ledger = match (call, held) {
-        (Call::Open(selected), _) if !sheet.selects(selected) => return Err(18),
-        (Call::Open(_), _) => Ledger::default(),
-        (_, Some(ledger)) if !ledger.malformed(&sheet) => ledger.clone(),
-        _ => return Err(15),
-    };
-    let off_sheet = call.event().is_some_and(|event| !sheet.has(event.decision().field, event.decision().position));
-    if given.engine < 1 || given.engine > 3 || off_sheet {
-        return Err(7);
-    }
-    if !is_order(given.order, sheet.fields()) {
-        return Err(9);
-    }
-    let next = ledger.step(call)?;
-    let network = Network::of(&sheet);
-    let offers = network.offers(next.start_set(&network.full), next.selected);
-    if network.wiped_out(&offers) {
-        return Err(14);
-    }
-    Ok((next, offers[..sheet.fields()].to_vec()))
-}
-
-/// Whether the list has n bytes and every field position just once.
-fn is_order(order: &[u8], n: usize) -> bool {
-    order.len() == n && (0..n).all(|f| order.iter().filter(|&&g| usize::from(g) == f).count() == 1)
 }

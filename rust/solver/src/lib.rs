@@ -1,19 +1,25 @@
 //! A plain solver, written from the scope paper (01) and the later requests (02) alone to be compared with the library. It shares nothing
-//! with the library or its wrapper and is made to be read, not to be fast.
+//! with the library or its wrapper but the names and parameters of the calls, and is made to be read, not to be fast.
 //!
 //! [`reading`] has the sheet's bytes and numbers with refusals 1 to 5, [`network`] the definitions of closing, testing and offering,
-//! [`ledger`] the ledger and the number of a call, [`session`] a judge that is given a session's words where the ledger has its own state.
+//! [`ledger`] the ledger and its steps, [`session`] a session's words, [`stages`] the causes of a refusal and [`effect`] all that a call
+//! does.
 
+pub mod effect;
 pub mod ledger;
 pub mod network;
 pub mod reading;
 pub mod session;
 pub mod sheet;
+pub mod stages;
 
-pub use ledger::{Arguments, Call, Decision, Event, Ledger, Sort};
+pub use effect::{Effect, State};
+pub use ledger::{Decision, Event, Ledger, Sort, Step};
 pub use network::{Network, Set};
+pub use public_calls::Call;
 pub use session::Words;
 pub use sheet::{Rule, Sheet, Triple};
+pub use stages::Arguments;
 
 /// The most fields of a sheet, and the most settings of a field.
 pub const MOST: usize = 24;

@@ -1,40 +1,52 @@
-//! A session's words, and the judge of calls that are given any words at all.
+//! A session's words, and the ledger that they hold.
 //!
 //! 24 masks of choices, 24 of strikes, 64 events of a kind, a field and a position, the count of the events that have happened, and the
 //! mask of selected fields.
 
-use crate::ledger::{judge, Arguments, Call, Decision, Event, Ledger, Sort};
+use crate::ledger::{Decision, Event, Ledger, Sort};
 use crate::MOST;
+use std::ops::Range;
 
 /// How many words a session has.
 pub const WORDS: usize = 242;
 
 pub type Words = [u32; WORDS];
 
-const STRIKES: usize = 24;
-const EVENTS: usize = 48;
+/// The places of the masks of choices.
+pub const CHOICES: Range<usize> = 0..MOST;
+/// The places of the masks of strikes.
+pub const STRIKES: Range<usize> = MOST..2 * MOST;
+/// The place of the first event.
+const EVENTS: usize = 2 * MOST;
+/// How many events a session has room for.
+pub const MOST_EVENTS: usize = 64;
 /// The place of the count.
-pub const COUNT: usize = 240;
+pub const COUNT: usize = EVENTS + 3 * MOST_EVENTS;
 /// The place of the mask of selected fields.
-pub const SELECTED: usize = 241;
+pub const SELECTED: usize = COUNT + 1;
+
+/// The places of an event: its kind, field and position.
+pub fn event_place(event: usize) -> Range<usize> {
+    EVENTS + 3 * event..EVENTS + 3 * event + 3
+}
 
 /// The ledger that the words hold; none where they hold more than 64 events or one of no kind.
 pub fn ledger(words: &Words) -> Option<Ledger> {
     let mut ledger = Ledger { selected: words[SELECTED], ..Ledger::default() };
     for field in 0..MOST as u32 {
         for position in 0..32 {
-            for (sort, start) in [(Sort::Choice, 0), (Sort::Strike, STRIKES)] {
-                if words[start + field as usize] >> position & 1 == 1 {
+            for (sort, masks) in [(Sort::Choice, &words[CHOICES]), (Sort::Strike, &words[STRIKES])] {
+                if masks[field as usize] >> position & 1 == 1 {
                     ledger.decisions.insert(Decision { sort, field, position });
                 }
             }
         }
     }
-    if words[COUNT] > 64 {
+    if words[COUNT] as usize > MOST_EVENTS {
         return None;
     }
     for place in 0..words[COUNT] as usize {
-        ledger.events.push(event(&words[EVENTS + 3 * place..][..3])?);
+        ledger.events.push(event(&words[event_place(place)])?);
     }
     Some(ledger)
 }
@@ -64,20 +76,14 @@ pub fn words_after(before: &Words, ledger: &Ledger) -> Words {
     let mut words = *before;
     words[..EVENTS].fill(0);
     for decision in &ledger.decisions {
-        let start = if decision.sort == Sort::Choice { 0 } else { STRIKES };
-        words[start + decision.field as usize] |= 1 << decision.position;
+        let masks = if decision.sort == Sort::Choice { CHOICES } else { STRIKES };
+        words[masks][decision.field as usize] |= 1 << decision.position;
     }
     for (place, &event) in ledger.events.iter().enumerate() {
         let decision = event.decision();
-        words[EVENTS + 3 * place..][..3].copy_from_slice(&[kind(event), decision.field, decision.position]);
+        words[event_place(place)].copy_from_slice(&[kind(event), decision.field, decision.position]);
     }
     words[COUNT] = ledger.events.len() as u32;
     words[SELECTED] = ledger.selected;
     words
-}
-
-/// What a call does to a session with these words: the words after it and the offers, or the number of the refusal.
-pub fn call(words: &Words, call: Call, given: &Arguments) -> Result<(Words, Vec<u32>), u32> {
-    let (next, offers) = judge(ledger(words).as_ref(), call, given)?;
-    Ok((words_after(words, &next), offers))
 }
