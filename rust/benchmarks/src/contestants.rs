@@ -5,12 +5,13 @@ use crate::plain::calls::Plain;
 use crate::plain::methods;
 use crate::proved::Proved;
 use crate::role::Role;
-use crate::task::{Job, Lent, Task};
+use crate::task::{Job, Spaces, Task};
 use crate::Offers;
 use belaykeel::raw::OFFERS_WORDS;
 use belaykeel::{Engine, Session};
+use harness::library::Library;
+use harness::linked::Linked;
 use std::hint::black_box;
-use tests::linked::{Library, Linked};
 
 /// All engines for sheets of at most so many fields, the proved ones first.
 pub fn engines(fields: usize) -> Vec<Contestant<Job, Offers>> {
@@ -46,13 +47,13 @@ pub fn libraries(fields: usize) -> Vec<Contestant<Task, Left>> {
 
 /// A library that makes each call on a copy of the task's session. The time is that of the call alone.
 fn library(role: Role, engine: Engine, mut library: impl Library + 'static) -> Contestant<Task, Left> {
-    let mut lent = Lent::default();
+    let mut spaces = Spaces::default();
     Contestant::new(role, move |task: &Task| {
-        lent.offers.fill(NO_OFFERS);
+        spaces.offers.fill(NO_OFFERS);
         let mut session = task.session.clone();
-        let given = task.given(engine, &mut lent);
-        let (number, time) = timed(|| library.call(black_box(&mut session), task.call, given));
-        assert_eq!(number, task.number, "{role}: {task:?}");
-        Run { answer: (number, session, lent.offers), tests: 0, time }
+        let mut lent = task.lent(engine, black_box(&mut session), &mut spaces);
+        let (answer, time) = timed(|| library.call(&task.call, &mut lent));
+        assert_eq!(answer.number, task.number, "{role}: {task:?}");
+        Run { answer: (answer.number, session, spaces.offers), tests: 0, time }
     })
 }

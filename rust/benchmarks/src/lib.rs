@@ -1,10 +1,11 @@
-//! The jobs of the library in plain Rust. The tests compare the proved code with it, and the programs `reading`, `engines`, `savings`,
-//! `calls` and `closings` time both. The program `selections` times the proved code with fewer fields selected, and
-//! `triples` whole calls on sheets with triples.
+//! The jobs of the library in plain Rust. The tests compare the proved code with it, and the programs `read_write_times`, `engines`,
+//! `savings`, `calls` and `closings` time both. The program `selections` times the proved code with fewer fields selected, and
+//! `triple_costs` whole calls on sheets with triples.
 
 #![deny(unsafe_code)]
 
 pub mod contestants;
+pub mod effort;
 pub mod measure;
 pub mod plain;
 #[allow(unsafe_code)]

@@ -1,9 +1,10 @@
 //! Times contestants on the same tasks, and compares what they answer.
 
+use crate::effort::Effort;
 use crate::role::Role;
 use std::fmt::Debug;
 use std::hint::black_box;
-use std::time::{Duration, Instant};
+use std::time::Instant;
 
 /// Does a task once.
 type Runner<T, A> = Box<dyn FnMut(&T) -> Run<A>>;
@@ -49,17 +50,12 @@ pub fn agree<T: Debug, A: PartialEq + Debug>(contestants: &mut [Contestant<T, A>
     runs
 }
 
-const LEAST_ROUNDS: usize = 5;
 const MOST_ROUNDS: usize = 1000;
 
 /// Microseconds of each contestant: its best of several rounds, in each of which the contestants run one after the other.
-fn best_times<T, A>(contestants: &mut [Contestant<T, A>], task: &T, budget: Duration) -> Vec<f64> {
+fn best_times<T, A>(contestants: &mut [Contestant<T, A>], task: &T, effort: Effort) -> Vec<f64> {
     let mut best = vec![f64::MAX; contestants.len()];
-    let begun = Instant::now();
-    for round in 0..MOST_ROUNDS {
-        if round >= LEAST_ROUNDS && begun.elapsed() >= budget {
-            break;
-        }
+    for _ in effort.rounds().take(MOST_ROUNDS) {
         for (contestant, best) in contestants.iter_mut().zip(&mut best) {
             *best = best.min((contestant.run)(black_box(task)).time);
         }
@@ -100,12 +96,12 @@ pub struct Measured<A> {
 }
 
 impl<A: PartialEq + Debug> Measured<A> {
-    pub fn new<T: Debug>(contestants: &mut [Contestant<T, A>], tasks: &[T], budget: Duration) -> Measured<A> {
+    pub fn new<T: Debug>(contestants: &mut [Contestant<T, A>], tasks: &[T], effort: Effort) -> Measured<A> {
         let columns = contestants.iter().map(|contestant| Column { role: contestant.role, times: vec![], tests: vec![] });
         let mut measured = Measured { answers: vec![], columns: columns.collect() };
         for task in tasks {
             let mut runs = agree(contestants, task);
-            let times = best_times(contestants, task, budget);
+            let times = best_times(contestants, task, effort);
             for ((column, run), time) in measured.columns.iter_mut().zip(&runs).zip(times) {
                 column.times.push(time);
                 column.tests.push(run.tests as f64);

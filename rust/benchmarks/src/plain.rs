@@ -7,9 +7,9 @@ mod engines;
 mod lanes;
 mod network;
 mod pairs;
-pub mod reading;
+pub mod read_write;
 mod tables;
-mod triples;
+mod triple_tables;
 
 use crate::role::{Role, BEFORE};
 use crate::task::Job;

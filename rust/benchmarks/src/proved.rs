@@ -2,7 +2,7 @@
 //! asks.
 
 use crate::measure::timed;
-use crate::plain::reading::outline;
+use crate::plain::read_write::outline;
 use crate::task::Job;
 use crate::{Offers, MOST};
 use belaykeel::raw::{MEMORY_WORDS, ROWS_WORDS};

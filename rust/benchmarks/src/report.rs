@@ -1,22 +1,4 @@
-//! What the benchmarks share: how much is measured, and Markdown tables.
-
-use std::time::Duration;
-
-/// How many sheets of a class are measured, and for how long each.
-#[derive(Clone, Copy)]
-pub struct Effort {
-    pub sheets: usize,
-    pub budget: Duration,
-}
-
-impl Effort {
-    /// With `--long` three times as many sheets, and twice the time for each.
-    pub fn new(sheets: usize, milliseconds: u64) -> Effort {
-        let long = std::env::args().any(|argument| argument == "--long");
-        let (more, longer) = if long { (3, 2) } else { (1, 1) };
-        Effort { sheets: more * sheets, budget: Duration::from_millis(longer * milliseconds) }
-    }
-}
+//! The Markdown tables that the programs print, and what stands in them.
 
 /// Prints the heading of a table.
 pub fn heading(cells: &[&str]) {

@@ -7,10 +7,10 @@ pub use drafts::Draft;
 pub use mill::{Mill, MILLS};
 
 use crate::WHOLE_REACH;
+use harness::shapes::every;
 use random::Random;
 use solver::{Rule, Sheet};
 use std::cmp::Reverse;
-use tests::shapes::every;
 
 /// A class of random sheets whose rules are all of kind 0.
 #[derive(Clone, Copy, Debug, PartialEq)]

@@ -1,14 +1,15 @@
 //! What is timed: a job of the engines, or a call with its sheet, session and order and the decisions that lead to it.
 
-use crate::plain::reading::outline;
+use crate::plain::read_write::outline;
 use crate::sheets::Series;
 use crate::Domains;
-use belaykeel::raw::{Arguments, MEMORY_WORDS, OFFERS_WORDS, ROWS_WORDS};
+use belaykeel::raw::{MEMORY_WORDS, OFFERS_WORDS, ROWS_WORDS};
 use belaykeel::{Engine, Session};
+use harness::library::{Lent, Library};
+use harness::linked::Linked;
+use harness::sheets::{bytes, numbers};
 use random::Random;
 use solver::{Call, Sheet};
-use tests::linked::{Library, Linked};
-use tests::sheets::{bytes, numbers};
 
 /// A sheet's list of numbers to solve, with its start set, the order of its fields and the mask of those that are selected.
 #[derive(Clone, Debug)]
@@ -44,15 +45,15 @@ pub struct Task {
 }
 
 /// The spaces that a call is lent.
-pub struct Lent {
+pub struct Spaces {
     pub offers: [u32; OFFERS_WORDS],
     rows: Vec<u32>,
     memory: Vec<u32>,
 }
 
-impl Default for Lent {
-    fn default() -> Lent {
-        Lent { offers: [0; OFFERS_WORDS], rows: vec![0; ROWS_WORDS], memory: vec![0; MEMORY_WORDS] }
+impl Default for Spaces {
+    fn default() -> Spaces {
+        Spaces { offers: [0; OFFERS_WORDS], rows: vec![0; ROWS_WORDS], memory: vec![0; MEMORY_WORDS] }
     }
 }
 
@@ -63,10 +64,10 @@ impl Task {
         Task { sheet: bytes(sheet), session: Session::default(), call, order: rising(sheet), number: 0 }
     }
 
-    /// What the call is given.
-    pub fn given<'a>(&'a self, engine: Engine, lent: &'a mut Lent) -> Arguments<'a> {
-        let Lent { offers, rows, memory } = lent;
-        Arguments { sheet: &self.sheet, engine: engine.number(), order: &self.order, offers, rows, memory }
+    /// What the call is lent and given besides its own values.
+    pub fn lent<'a>(&'a self, engine: Engine, session: &'a mut Session, spaces: &'a mut Spaces) -> Lent<'a> {
+        let Spaces { offers, rows, memory } = spaces;
+        Lent { session, sheet: &self.sheet, engine: engine.number(), order: &self.order, offers, rows, memory, own: vec![] }
     }
 
     /// The same sheet and order with another session and call.
@@ -97,15 +98,15 @@ const TRIES: usize = 60;
 
 /// A session of a sheet.
 struct Room {
-    lent: Lent,
+    spaces: Spaces,
     task: Task,
 }
 
 impl Room {
     /// Makes a call on the session. Whether it is accepted.
-    fn call(&mut self, call: Call) -> bool {
+    fn call(&mut self, call: &Call) -> bool {
         let mut session = self.task.session.clone();
-        let accepted = Linked.call(&mut session, call, self.task.given(Engine::Sac1, &mut self.lent)) == 0;
+        let accepted = Linked.call(call, &mut self.task.lent(Engine::Sac1, &mut session, &mut self.spaces)).number == 0;
         self.task.session = session;
         accepted
     }
@@ -115,9 +116,9 @@ impl Room {
         let fields = self.task.order.len();
         for _ in 0..TRIES {
             let (f, v) = (random.below(fields), random.below(24));
-            let domain = self.lent.offers[f];
-            if domain.count_ones() > 1 && domain >> v & 1 == 1 && self.call(call(f as u32, v as u32)) {
-                return Some(call(f as u32, v as u32));
+            let (domain, decision) = (self.spaces.offers[f], call(f as u32, v as u32));
+            if domain.count_ones() > 1 && domain >> v & 1 == 1 && self.call(&decision) {
+                return Some(decision);
             }
         }
         None
@@ -129,20 +130,20 @@ impl Room {
 fn tasks(sheet: &Sheet, seed: u64) -> Option<Vec<Task>> {
     let mut random = Random(seed);
     let open = Task::open(sheet);
-    let mut room = Room { lent: Lent::default(), task: open.clone() };
-    let opened = room.call(open.call);
+    let mut room = Room { spaces: Spaces::default(), task: open.clone() };
+    let opened = room.call(&open.call);
     let first = opened.then(|| room.decide(&mut random, Call::Strike))??;
     let second = room.decide(&mut random, Call::Strike)?;
     let before = room.task.session.clone();
     let choice = room.decide(&mut random, Call::Choose)?;
     let after = room.task.session.clone();
-    let (Call::Strike(f, v), Call::Choose(g, u)) = (first, choice) else {
+    let (&Call::Strike(f, v), &Call::Choose(g, u)) = (&first, &choice) else {
         return None;
     };
-    let reordered = [open.call, choice, first, second].into_iter().all(|call| room.call(call));
+    let reordered = [&open.call, &choice, &first, &second].into_iter().all(|call| room.call(call));
     assert!(reordered, "decisions that are accepted in one order are accepted in another");
     let calls = [(&after, Call::Show), (&before, choice), (&after, Call::WithdrawStrike(f, v))];
-    let mut tasks = vec![open.with(&after, open.call)];
+    let mut tasks = vec![open.with(&after, open.call.clone())];
     tasks.extend(calls.map(|(session, call)| open.with(session, call)));
     tasks.push(open.with(&room.task.session, Call::WithdrawChoice(g, u)));
     Some(tasks)

@@ -1,7 +1,6 @@
 //! The plain calls and the proved ones agree: on random sequences of calls with sheets, sessions and arguments that are often wrong, and on
 //! the calls that are timed.
 
-use belaykeel::raw::Arguments;
 use belaykeel::Session;
 use benchmarks::contestants::libraries;
 use benchmarks::measure::agree;
@@ -9,28 +8,32 @@ use benchmarks::plain::calls::Plain;
 use benchmarks::plain::methods;
 use benchmarks::sheets::{Class, Series, Source, MILLS, REACHES};
 use benchmarks::task::{Chosen, CALLS};
+use harness::case::{Given, Step};
+use harness::library::{Lent, Library};
+use harness::linked::Linked;
+use harness::shapes::Size;
+use harness::sheets::{bytes, damaged};
+use harness::steps::{next, opening, Habits};
+use harness::tally::Tally;
+use harness::{forge, taste};
+use public_calls::Name;
 use random::Random;
-use tests::case::{Given, Step};
-use tests::linked::{session, words, Library, Linked};
-use tests::shapes::Size;
-use tests::sheets::{bytes, damaged};
-use tests::steps::{next, opening, Habits};
-use tests::tally::Tally;
-use tests::{forge, taste};
 
 /// What a library leaves: the number, the session and the offers list.
 fn left(library: &mut dyn Library, before: &Session, given: &Given, sheet: &[u8]) -> (u32, Session, Vec<u32>) {
     let mut session = before.clone();
-    let mut offers = vec![0xA5C3_0F1E; given.offers];
-    let arguments = Arguments {
+    let mut offers = vec![0xA5C3_0F1E; given.length("offers")];
+    let mut lent = Lent {
+        session: &mut session,
         sheet: given.sheet.as_deref().unwrap_or(sheet),
         engine: given.engine,
         order: &given.order,
         offers: &mut offers,
-        rows: &mut vec![0; given.rows],
-        memory: &mut vec![0; given.memory],
+        rows: &mut vec![0; given.length("rows")],
+        memory: &mut vec![0; given.length("memory")],
+        own: vec![],
     };
-    let number = library.call(&mut session, given.call, arguments);
+    let number = library.call(&given.call, &mut lent).number;
     (number, session, offers)
 }
 
@@ -43,17 +46,18 @@ fn sequence(plain: &mut dyn Library, seed: u64, tally: &mut Tally) {
     let given = if random.one_in(8) { damaged(&mut random, &sheet) } else { bytes(&sheet) };
     let forging = random.one_in(2);
     let habits = Habits::draw(&mut random, forging);
-    let mut held = session(&forge::forged(&mut random, &sheet));
+    let mut held = *forge::forged(&mut random, &sheet);
     for place in 0..random.pick(&[8, 20, 100]) {
-        let step = if place == 0 { opening(&mut random, &sheet) } else { next(&mut random, &habits, &sheet, &words(&held)) };
+        let step = if place == 0 { opening(&mut random, &sheet) } else { next(&mut random, &habits, &sheet, &held) };
         match step {
-            Step::Forge(words) => held = session(&words),
-            Step::Call(call) => {
+            Step::Session(session) => held = *session,
+            Step::Call(call) if call.call.row().has("session") => {
                 let proved = left(&mut Linked, &held, &call, &given);
                 assert_eq!(left(plain, &held, &call, &given), proved, "seed {seed}: {call:?} on {held:?} of {given:?}");
                 tally.add(&call, &given, held.selected, proved.0);
                 held = proved.1;
             }
+            Step::Call(_) | Step::Sheet(_) => (),
         }
     }
 }
@@ -68,7 +72,9 @@ fn random_calls() {
         sequence(&mut plains[which], seeds.word(), &mut tally);
     }
     println!("{tally}");
-    assert!((0..=18).all(|number| (tally.number(number) > 0) != [8, 16, 17].contains(&number)), "{tally}");
+    let calls: Vec<Name> = Name::ALL.iter().copied().filter(|name| name.row().has("session")).collect();
+    let missing = tally.missing(&calls, |_| true);
+    assert_eq!(missing, [], "{tally}");
 }
 
 #[test]

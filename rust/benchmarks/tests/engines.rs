@@ -7,15 +7,15 @@ use benchmarks::role::{Role, BEFORE, PLAIN_SAC1};
 use benchmarks::sheets::Class;
 use benchmarks::task::Job;
 use benchmarks::{Domains, Offers, WHOLE_REACH};
+use harness::methods::sac2;
+use harness::random_triples::with_triples;
+use harness::selections::good;
+use harness::shapes::Size;
+use harness::sheets::unequal;
+use harness::taste;
 use random::Random;
 use solver::network::includes;
 use solver::{Network, Rule, Set, Sheet};
-use tests::methods::sac2;
-use tests::selections::good;
-use tests::shapes::Size;
-use tests::sheets::unequal;
-use tests::taste;
-use tests::triples::with_triples;
 
 /// A start set: every setting, or some of them.
 fn start(random: &mut Random, full: Domains) -> Domains {

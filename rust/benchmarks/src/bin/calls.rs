@@ -3,8 +3,9 @@
 
 use belaykeel::Engine;
 use benchmarks::contestants::{libraries, Left};
+use benchmarks::effort::{Effort, Extent};
 use benchmarks::measure::{self, median};
-use benchmarks::report::{apart, heading, print_apart, row, share, Effort};
+use benchmarks::report::{apart, heading, print_apart, row, share};
 use benchmarks::role::{Role, PLAIN, PLAIN_SAC1};
 use benchmarks::sheets::{growing, Class, Series, Source, HARDEST, PAGES, REACHES};
 use benchmarks::task::{Chosen, Task, CALLS};
@@ -27,7 +28,7 @@ struct Line {
 }
 
 fn choose_sheets(all: &[Series], effort: Effort) -> Vec<Chosen> {
-    all.iter().map(|&series| Chosen::new(series, effort.sheets)).collect()
+    effort.some_of(all).iter().map(|&series| Chosen::new(series, effort.sheets)).collect()
 }
 
 /// Measures every call on the sheets of these series, at the reaches that are wanted.
@@ -39,7 +40,7 @@ fn measure(all: &[Chosen], wanted: &[u32], effort: Effort) -> Vec<Line> {
         for &reach in series.reaches.iter().filter(|reach| wanted.contains(reach)) {
             for call in 0..CALLS.len() {
                 let tasks = chosen.tasks(call, reach);
-                let measured = Measured::new(&mut libraries, &tasks, effort.budget);
+                let measured = Measured::new(&mut libraries, &tasks, effort);
                 let offered = tasks.iter().zip(&measured.answers).map(|(task, left)| offered(task, left)).collect();
                 lines.push(Line { series, reach, call, offered, measured });
             }
@@ -88,11 +89,11 @@ fn print_lines(lines: &[Line]) {
 /// Open on sheets that are wiped out: number 14.
 fn print_wiped_out(effort: Effort) {
     heading(&[&["sheets", "reach", "call"][..], &CELLS].concat());
-    for (tightness, first_seed) in [(0.52, 10_000), (0.7, 12_000)] {
+    for &(tightness, first_seed) in effort.some_of(&[(0.52, 10_000), (0.7, 12_000)]) {
         let source = Source::Random(Class::largest(1.0, tightness));
         let sheets = (first_seed..).take(effort.sheets).map(|seed| source.sheet(seed));
         let tasks: Vec<Task> = sheets.map(|sheet| Task { number: 14, ..Task::open(&sheet) }).collect();
-        let measured = Measured::new(&mut libraries(source.fields()), &tasks, effort.budget);
+        let measured = Measured::new(&mut libraries(source.fields()), &tasks, effort);
         row(&[&[source.label(), "24".into(), "open, refused with 14".into()][..], &cells(&measured)].concat());
     }
 }
@@ -110,7 +111,7 @@ impl Parts {
         let mut libraries = libraries(fields);
         let mut measured = |change: fn(&Task) -> Task| {
             let tasks: Vec<Task> = opens.iter().map(change).collect();
-            Measured::new(&mut libraries, &tasks, effort.budget)
+            Measured::new(&mut libraries, &tasks, effort)
         };
         let (read, tables, open) = (measured(Task::without_order), measured(Task::with_two_choices), measured(Task::clone));
         let parts = |role: Role| {
@@ -145,7 +146,7 @@ fn print_growth(title: &str, classes: &[Class], effort: Effort) {
     println!("\n{title}:");
     let first = ["fields", "settings", "density", "bytes", "engine 1, µs"];
     heading(&[&first[..], &PARTS, &["fastest plain SAC-1, µs", "engine 1 to it"]].concat());
-    for class in classes {
+    for class in effort.some_of(classes) {
         let opens: Vec<Task> = (1..).take(effort.sheets).map(|seed| Task::open(&class.sheet(seed))).collect();
         let parts = Parts::new(class.fields, &opens, effort);
         let [engine_1, plain] = [&[ENGINE_1][..], &PLAIN_SAC1].map(|roles| format!("{:.1}", parts.open.fastest(roles).median()));
@@ -176,7 +177,8 @@ fn print_noise(first: &[&Line], second: &[Line]) {
 
 fn main() {
     let begun = Instant::now();
-    let (small, large, parts) = (Effort::new(7, 15), Effort::new(3, 100), Effort::new(3, 20));
+    let extent = Extent::asked();
+    let (small, large, parts) = (extent.effort(7, 15), extent.effort(3, 100), extent.effort(3, 20));
     let (pages, hard) = (choose_sheets(&PAGES, small), choose_sheets(&HARDEST, large));
     println!("### Set-up pages");
     let page_lines = measure(&pages, REACHES, small);

@@ -4,8 +4,9 @@
 
 use belaykeel::Engine;
 use benchmarks::contestants::engines;
+use benchmarks::effort::{Effort, Extent};
 use benchmarks::measure::{median, Contestant, Measured};
-use benchmarks::report::{apart, heading, print_apart, row, Effort};
+use benchmarks::report::{apart, heading, print_apart, row};
 use benchmarks::role::{Role, BEFORE};
 use benchmarks::sheets::{random_series, Class, Series, Source, HARDEST, LARGE, PAGES};
 use benchmarks::task::Job;
@@ -35,7 +36,7 @@ struct Line {
 impl Line {
     fn new(series: &Series, reach: u32, effort: Effort) -> Line {
         let jobs: Vec<Job> = series.sheets(effort.sheets, reach).iter().map(Job::new).collect();
-        let measured = Measured::new(&mut compared(series.source.fields()), &jobs, effort.budget);
+        let measured = Measured::new(&mut compared(series.source.fields()), &jobs, effort);
         Line { source: series.source, reach, measured }
     }
 
@@ -54,7 +55,7 @@ impl Line {
 fn measure(all: &[Series], effort: Effort) -> Vec<Line> {
     let mut lines = vec![];
     for reach in REACHES {
-        let at_reach = all.iter().filter(|series| series.reaches.contains(&reach));
+        let at_reach = effort.some_of(all).iter().filter(|series| series.reaches.contains(&reach));
         lines.extend(at_reach.map(|series| Line::new(series, reach, effort)));
     }
     lines
@@ -170,7 +171,7 @@ fn print_start(effort: Effort) {
     let sheets: Vec<Sheet> = (1..).take(effort.sheets).map(|seed| class.sheet(seed)).collect();
     let [tables, both] = [tables_alone, start_alone].map(|job| {
         let jobs: Vec<Job> = sheets.iter().map(job).collect();
-        let measured = Measured::new(&mut compared(class.fields), &jobs, effort.budget);
+        let measured = Measured::new(&mut compared(class.fields), &jobs, effort);
         let untouched = jobs.iter().zip(&measured.answers).all(|(job, answer)| answer.is_none_or(|offers| offers == job.start));
         assert!(untouched, "the start removes nothing");
         roles.map(|role| measured.column(role).median())
@@ -184,7 +185,8 @@ fn print_start(effort: Effort) {
 
 fn main() {
     let begun = Instant::now();
-    let (small, large, start) = (Effort::new(15, 10), Effort::new(7, 60), Effort::new(5, 40));
+    let extent = Extent::asked();
+    let (small, large, start) = (extent.effort(15, 10), extent.effort(7, 60), extent.effort(5, 40));
     println!("Ratios are to the same method in plain Rust with the closing before AC-4, medians over the sheets.");
     println!("Plain AC-4 is SAC-1, to plain SAC-1 with the closing before.");
     let sorts = [Sort::new("Set-up pages", &PAGES, small), Sort::new("24 fields of 24 settings", &largest(), large)];

@@ -3,8 +3,9 @@
 
 use belaykeel::Engine;
 use benchmarks::contestants::engines;
+use benchmarks::effort::{Effort, Extent};
 use benchmarks::measure::{self, median, Column};
-use benchmarks::report::{apart, heading, row, share, Effort};
+use benchmarks::report::{apart, heading, row, share};
 use benchmarks::role::{Role, ONE_BY_ONE, PLAIN_SAC1};
 use benchmarks::sheets::{growing, random_classes, Class, Densities, LARGE, REACHES, SMALL};
 use benchmarks::task::Job;
@@ -30,7 +31,7 @@ impl Measured {
         jobs.iter_mut().for_each(change);
         let mut compared = engines(class.fields);
         compared.retain(|contestant| matches!(contestant.role, Role::Proved(_)) || PLAIN_SAC1.contains(&contestant.role));
-        let all = measure::Measured::new(&mut compared, &jobs, effort.budget);
+        let all = measure::Measured::new(&mut compared, &jobs, effort);
         let wiped = all.answers.iter().filter(|offers| offers.is_none()).count();
         let offered = |offers: &Offers| share(&offers.unwrap_or_default(), class.fields * class.settings);
         Measured { class, first_seed, wiped, offered: all.answers.iter().map(offered).collect(), all }
@@ -52,7 +53,7 @@ fn measure(class: Class, first_seed: u64, effort: Effort) -> Measured {
 /// Measures sheets of all densities and tightnesses; those of different reaches are otherwise the same.
 fn measure_all(fields: usize, settings: usize, densities: &Densities, reaches: &[u32], effort: Effort) -> Vec<Measured> {
     let mut all = vec![];
-    for (class, first_seed) in random_classes(fields, settings, densities) {
+    for &(class, first_seed) in effort.some_of(&random_classes(fields, settings, densities)) {
         for &reach in reaches {
             all.push(measure(Class { reach, ..class }, first_seed, effort));
         }
@@ -118,7 +119,7 @@ fn print_closings(all: &[Measured]) {
 /// The tables alone: one field of the start set is empty, so that an engine stops as soon as its tables are built.
 fn print_tables(effort: Effort) {
     heading(&["fields", "settings", "density", "engine 1, µs", "fastest plain, µs", "ratio"]);
-    for (fields, settings, density) in [(24, 24, 0.2), (24, 24, 0.5), (24, 24, 1.0), (8, 6, 0.5), (8, 6, 1.0)] {
+    for &(fields, settings, density) in effort.some_of(&[(24, 24, 0.2), (24, 24, 0.5), (24, 24, 1.0), (8, 6, 0.5), (8, 6, 1.0)]) {
         let class = Class { fields, settings, density, tightness: 0.5, reach: WHOLE_REACH };
         let measured = Measured::new(class, 1, effort, |job| job.start[0] = 0);
         let (engine_1, fastest) = (measured.column(ENGINE_1), measured.fastest(&PLAIN_SAC1));
@@ -131,7 +132,7 @@ fn print_tables(effort: Effort) {
 fn print_growth(title: &str, classes: &[Class], effort: Effort) {
     println!("\n{title}:");
     heading(&["fields", "settings", "density", "wiped out", "tests", "engine 1, µs", "fastest plain SAC-1, µs"]);
-    for &class in classes {
+    for &class in effort.some_of(classes) {
         let measured = measure(class, 1, effort);
         let fastest = measured.fastest(&PLAIN_SAC1);
         row(&[
@@ -164,7 +165,8 @@ fn print_noise(first: &[&Measured], second: &[Measured]) {
 
 fn main() {
     let begun = Instant::now();
-    let (large, small, growth) = (Effort::new(7, 60), Effort::new(15, 10), Effort::new(5, 40));
+    let extent = Extent::asked();
+    let (large, small, growth) = (extent.effort(7, 60), extent.effort(15, 10), extent.effort(5, 40));
     println!("## 24 fields of 24 settings");
     let mut all = measure_all(24, 24, LARGE, REACHES, large);
     print_ratios(&all);

@@ -4,8 +4,9 @@
 
 use belaykeel::Engine;
 use benchmarks::contestants::engines;
+use benchmarks::effort::{Effort, Extent};
 use benchmarks::measure;
-use benchmarks::report::{apart, heading, print_apart, row, Effort};
+use benchmarks::report::{apart, heading, print_apart, row};
 use benchmarks::role::Role;
 use benchmarks::sheets::{at_reach_2, random_series, Series, Source, HARDEST, LARGE, PAGES, REACHES, SMALL};
 use benchmarks::task::Job;
@@ -31,13 +32,14 @@ impl Line {
         let jobs: Vec<Job> = series.sheets(effort.sheets, reach).iter().map(Job::new).collect();
         let mut compared = engines(series.source.fields());
         compared.retain(|contestant| PROVED.contains(&contestant.role) || COUNTED.contains(&contestant.role));
-        Line { source: series.source, reach, measured: measure::Measured::new(&mut compared, &jobs, effort.budget) }
+        Line { source: series.source, reach, measured: measure::Measured::new(&mut compared, &jobs, effort) }
     }
 }
 
 /// Measures each series at its reaches.
 fn measure(all: &[Series], effort: Effort) -> Vec<Line> {
-    all.iter().flat_map(|series| series.reaches.iter().map(move |&reach| Line::new(series, reach, effort))).collect()
+    let listed = effort.some_of(all).iter();
+    listed.flat_map(|series| series.reaches.iter().map(move |&reach| Line::new(series, reach, effort))).collect()
 }
 
 /// The tests of some sheets, by the three engines.
@@ -165,7 +167,8 @@ fn print_noise(first: &[Line], second: &[Line]) {
 
 fn main() {
     let begun = Instant::now();
-    let (small, large, many) = (Effort::new(15, 10), Effort::new(7, 60), Effort::new(30, 5));
+    let extent = Extent::asked();
+    let (small, large, many) = (extent.effort(15, 10), extent.effort(7, 60), extent.effort(30, 5));
     println!("Tests and times are those of all sheets of a row. A time is a part of that of engine 1 or of plain SAC-1.");
     let mut lines = print_savings("Set-up pages", &PAGES, small);
     lines.extend(print_savings("Hardest sheets, 24 fields of 24 settings", &HARDEST, large));

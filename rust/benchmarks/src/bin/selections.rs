@@ -5,17 +5,19 @@
 
 use belaykeel::Engine;
 use benchmarks::contestants::engines;
+use benchmarks::effort::{Effort, Extent};
 use benchmarks::measure::{agree, median, timed, Column, Contestant, Measured, Run};
 use benchmarks::proved::Proved;
-use benchmarks::report::{apart, heading, print_apart, row, share, Effort};
+use benchmarks::report::{apart, heading, print_apart, row, share};
 use benchmarks::role::Role;
 use benchmarks::sheets::{busiest, Series, Source, HARDEST, PAGES, REACHES};
-use benchmarks::task::{Job, Lent, Task};
+use benchmarks::task::{Job, Spaces, Task};
 use benchmarks::WHOLE_REACH;
+use harness::library::Library;
+use harness::linked::Linked;
 use solver::{Call, Sheet};
 use std::hint::black_box;
 use std::time::Instant;
-use tests::linked::{Library, Linked};
 
 /// How many fields are selected, of n: one, a quarter, half and all.
 const PARTS: [&str; 4] = ["one field", "a quarter", "half", "all"];
@@ -58,13 +60,13 @@ fn contestants() -> Vec<Contestant<Input, ()>> {
         }));
     }
     for (engine, part) in each() {
-        let mut lent = Lent::default();
+        let mut spaces = Spaces::default();
         all.push(Contestant::new(Role::Proved(engine), move |input: &Input| {
             let task = &input.opens[part];
             let mut session = task.session.clone();
-            let given = task.given(engine, &mut lent);
-            let (number, time) = timed(|| Linked.call(black_box(&mut session), task.call, given));
-            assert!([0, 14].contains(&number), "{number}: {task:?}");
+            let mut lent = task.lent(engine, black_box(&mut session), &mut spaces);
+            let (answer, time) = timed(|| Linked.call(&task.call, &mut lent));
+            assert!([0, 14].contains(&answer.number), "{answer:?}: {task:?}");
             Run { answer: (), tests: 0, time }
         }));
     }
@@ -112,7 +114,7 @@ impl Line {
     fn new(series: &Series, reach: u32, effort: Effort) -> Line {
         let inputs: Vec<Input> = series.sheets(effort.sheets, reach).iter().map(Input::new).collect();
         let found = (0..PARTS.len()).map(|part| Found::new(series.source.fields(), &inputs, part)).collect();
-        let columns = Measured::new(&mut contestants(), &inputs, effort.budget).columns;
+        let columns = Measured::new(&mut contestants(), &inputs, effort).columns;
         Line { source: series.source, reach, found, columns }
     }
 
@@ -138,7 +140,7 @@ impl Line {
 /// Measures each series at those of its reaches that are wanted.
 fn measure(all: &[Series], wanted: &[u32], effort: Effort) -> Vec<Line> {
     let reaches = |series: &Series| series.reaches.iter().filter(|reach| wanted.contains(reach)).copied().collect::<Vec<u32>>();
-    all.iter().flat_map(|series| reaches(series).into_iter().map(move |reach| Line::new(series, reach, effort))).collect()
+    effort.some_of(all).iter().flat_map(|series| reaches(series).into_iter().map(move |reach| Line::new(series, reach, effort))).collect()
 }
 
 /// Measures sheets and prints a row for each series, reach and part of the fields.
@@ -173,7 +175,8 @@ fn print_noise(first: &[&Line], second: &[Line]) {
 
 fn main() {
     let begun = Instant::now();
-    let (small, large) = (Effort::new(15, 10), Effort::new(7, 60));
+    let extent = Extent::asked();
+    let (small, large) = (extent.effort(15, 10), extent.effort(7, 60));
     println!("Tests are those of all sheets of a row. A time is a part of that with every field selected, the median over the sheets.");
     let mut lines = print_lines("Set-up pages", &PAGES, small);
     lines.extend(print_lines("Hardest sheets, 24 fields of 24 settings", &HARDEST, large));

@@ -7,7 +7,7 @@
 use super::closing::Closing;
 use super::network::{members, Network};
 use super::tables::Tables;
-use super::triples::losing;
+use super::triple_tables::losing;
 use crate::{Domains, Offers, MOST};
 
 /// The binary digits of a count, which is at most 24.

@@ -1,13 +1,13 @@
 //! The calls in plain Rust. The lent work spaces are only asked for their lengths; the tables are the method's own, made once.
 
-use super::reading::{read_at_once, Outline};
+use super::read_write::{read_at_once, Outline};
 use super::Method;
 use crate::task::Job;
 use crate::{Domains, MOST};
-use belaykeel::raw::{Arguments, MEMORY_WORDS, OFFERS_WORDS, ROWS_WORDS, SHEET_NUMBERS};
+use belaykeel::raw::{MEMORY_WORDS, OFFERS_WORDS, ROWS_WORDS, SHEET_NUMBERS};
 use belaykeel::{Event, Session, EVENTS};
+use harness::library::{Answer, Lent, Library};
 use solver::Call;
-use tests::linked::Library;
 
 /// A method to find the offers, with the numbers of the sheet, the start set, the order and the mask of selected fields that it is given.
 pub struct Plain {
@@ -21,12 +21,13 @@ impl Plain {
     }
 
     /// The whole call: the number of the first cause against it, in the order of the scope paper.
-    fn answer(&mut self, session: &mut Session, call: Call, given: Arguments) -> Result<(), u32> {
+    fn answer(&mut self, call: &Call, given: &mut Lent) -> Result<(), u32> {
+        let session = &mut *given.session;
         if given.offers.len() < OFFERS_WORDS || given.rows.len() < ROWS_WORDS || given.memory.len() < MEMORY_WORDS {
             return Err(6);
         }
         let sheet = read_at_once(given.sheet, &mut self.job.numbers)?;
-        let selected = match call {
+        let selected = match *call {
             Call::Open(selected) if !selects(selected, &sheet) => return Err(18),
             Call::Open(selected) => selected,
             _ if malformed(session, &sheet) => return Err(15),
@@ -58,8 +59,8 @@ impl Plain {
 }
 
 impl Library for Plain {
-    fn call(&mut self, session: &mut Session, call: Call, given: Arguments) -> u32 {
-        self.answer(session, call, given).err().unwrap_or(0)
+    fn call(&mut self, call: &Call, lent: &mut Lent) -> Answer {
+        Answer { number: self.answer(call, lent).err().unwrap_or(0), others: vec![] }
     }
 }
 
@@ -97,13 +98,13 @@ impl Decisions {
 }
 
 /// The event that a call adds.
-fn event(call: Call) -> Option<Event> {
-    let (kind, field, position) = match call {
+fn event(call: &Call) -> Option<Event> {
+    let (kind, field, position) = match *call {
         Call::Choose(field, position) => (1, field, position),
         Call::Strike(field, position) => (2, field, position),
         Call::WithdrawChoice(field, position) => (3, field, position),
         Call::WithdrawStrike(field, position) => (4, field, position),
-        Call::Open(_) | Call::Show | Call::Back | Call::CoilOn => return None,
+        _ => return None,
     };
     Some(Event { kind, field, position })
 }
@@ -140,7 +141,7 @@ fn is_order(order: &[u8], fields: usize) -> bool {
 }
 
 /// The decisions and the count of events after a call, or 10, 11, 13 or 12.
-fn step(session: &Session, call: Call, event: Option<Event>) -> Result<(Decisions, u32), u32> {
+fn step(session: &Session, call: &Call, event: Option<Event>) -> Result<(Decisions, u32), u32> {
     let mut decisions = Decisions::of(session);
     let mut count = session.count;
     match (call, event) {

@@ -1,7 +1,7 @@
 //! What the ways of closing share. All but AC-4 are AC-3 with a mask of the changed fields. Triples are revised where the rules are closed.
 
 use super::network::Network;
-use super::triples::losing;
+use super::triple_tables::losing;
 use crate::{Domains, Offers, MOST};
 
 /// A way to close a set, with its tables.

@@ -1,6 +1,6 @@
 //! The network of a sheet, read from its list of numbers.
 
-use super::triples::Triples;
+use super::triple_tables::Triples;
 use crate::{MOST, WHOLE_REACH};
 use belaykeel::raw::ENCODER_TOLERANCE;
 
