@@ -1,5 +1,5 @@
-/* The layout of a session and of an answer, in bytes: the library reads and writes the parts at these offsets. Of a session
- * rust/belaykeel/src/session.rs holds Rust callers to the same. That the library keeps to it is seen where thin_coil.c prints the parts. */
+/* The layout of a session and of an answer, in bytes: the library reads and writes the parts at these offsets. Rust callers are held to
+ * the same by rust/belaykeel/src/session.rs and raw.rs. That the library keeps to it is seen where thin_coil.c prints the parts. */
 #include "belaykeel.h"
 
 #define AT(type, part, offset) _Static_assert(offsetof(type, part) == (offset), #part " of " #type)

@@ -4,7 +4,7 @@ use crate::library::{Answer, Calls, Lent};
 use crate::linked::Linked;
 use crate::selections::selection;
 use belaykeel::raw::{MEMORY_WORDS, OFFERS_WORDS, ROWS_WORDS};
-use belaykeel::{Engine, Offers, Order, Refusal, Selection, Session, Sheet, WorkSpaces};
+use belaykeel::{Engine, Offers, Order, Refusal, Session, Sheet, WorkSpaces};
 
 /// Makes each call by the wrapper's method, wherever that can be asked for what is given, and else by the plain call.
 #[derive(Default)]
@@ -30,13 +30,8 @@ fn fields(sheet: &[u8]) -> usize {
     sheet.first().map_or(0, |&first| usize::from(first).min(OFFERS_WORDS))
 }
 
-/// The wrapper's selection for a mask.
-fn chosen(selected: u32, lent: &Lent) -> Selection {
-    selection(selected, fields(lent.sheet))
-}
-
 impl Wrapped {
-    /// A call that gives offers, by a method; nothing where the wrapper has no such engine or makes its own spaces longer.
+    /// A call that gives offers, by a method; nothing where the wrapper has no such engine, or lends longer spaces than these.
     fn offers(&mut self, lent: &mut Lent, method: impl FnOnce(&mut Session, Plain) -> Result<Offers, Refusal>) -> Option<Answer> {
         let enough = lent.offers.len() >= OFFERS_WORDS && lent.rows.len() >= ROWS_WORDS && lent.memory.len() >= MEMORY_WORDS;
         let engine = Engine::ALL.into_iter().find(|engine| engine.number() == lent.engine).filter(|_| enough)?;
@@ -75,7 +70,7 @@ impl Calls for Wrapped {
     }
 
     fn open(&mut self, lent: &mut Lent, selected: u32) -> Answer {
-        let selection = chosen(selected, lent);
+        let selection = selection(selected, fields(lent.sheet));
         let method = |session: &mut Session, given: Plain| session.open(&given.sheet, given.engine, &given.order, &selection, given.spaces);
         self.offers(lent, method).unwrap_or_else(|| Linked.open(lent, selected))
     }
