@@ -18,7 +18,10 @@ pub fn forged(random: &mut Random, sheet: &Sheet) -> Box<Session> {
         0 => return noise(random),
         1..=4 => (),
         5 => session.selected = bad(random, sheet.fields()),
-        6 => session.count = random.pick(&TOO_MANY),
+        6 => {
+            session = with_events(random, sheet, EVENTS);
+            session.count = random.pick(&TOO_MANY);
+        }
         _ => (0..random.from(1, 2)).for_each(|_| damage(random, sheet, &mut session)),
     }
     session
@@ -52,14 +55,20 @@ fn decision(random: &mut Random, sheet: &Sheet) -> Decision {
     Decision { sort, field, position }
 }
 
-/// A session with some decisions, and events that lead to them. Its places past the count hold noise.
+/// A session with some decisions, and events that lead to them.
 pub fn well_formed(random: &mut Random, sheet: &Sheet) -> Box<Session> {
+    let count = random.pick(&[0, 1, 3, 10, 62, 63, 64, 64]);
+    with_events(random, sheet, count)
+}
+
+/// The same with so many events. Its places past the count hold noise.
+fn with_events(random: &mut Random, sheet: &Sheet, count: usize) -> Box<Session> {
     let mut ledger = Ledger { selected: good(random, sheet.fields()), ..Ledger::default() };
     for _ in 0..random.pick(&[0, 0, 0, 1, 2, 8]) {
         ledger.decisions.insert(decision(random, sheet));
     }
     let few: Vec<Decision> = (0..random.pick(&[1, 2, 2, 3, 20])).map(|_| decision(random, sheet)).collect();
-    for _ in 0..random.pick(&[0, 1, 3, 10, 62, 63, 64, 64]) {
+    for _ in 0..count {
         let decision = random.pick(&few);
         if ledger.decisions.remove(&decision) {
             ledger.events.push(solver::Event::Withdrawn(decision));

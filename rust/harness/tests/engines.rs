@@ -84,6 +84,11 @@ fn each_number_runs_its_algorithm() {
         let mut found = sheets.filter_map(|sheet| expected(&sheet).filter(differ).map(|closings| (sheet, closings)));
         let (sheet, closings) = found.next().expect("a sheet");
         println!("closings at reach {reach}: {closings:?}");
-        assert_eq!(Engine::ALL.map(|engine| counted(&sheet, engine)), closings, "{sheet:?}");
+        let sheet = &sheet;
+        let counts = std::thread::scope(|scope| {
+            let started = Engine::ALL.map(|engine| scope.spawn(move || counted(sheet, engine)));
+            started.map(|count| count.join().expect("a count"))
+        });
+        assert_eq!(counts, closings, "{sheet:?}");
     }
 }

@@ -76,12 +76,12 @@ fn refused_open(random: &mut Random, n: usize) -> Step {
     Step::Call(given)
 }
 
-/// Opens with good and bad masks, and other calls between them, accepted and refused. The runner compares the mask after every call.
-#[test]
-fn kept_by_every_call_but_an_accepted_open() {
-    let mut random = Random(2);
+/// Opens with good and bad masks, and other calls between them, accepted and refused. The runner compares the mask after every call. How
+/// many opens with some fields only were accepted.
+fn opened_again_and_again(seed: u64) -> usize {
+    let mut random = Random(seed);
     let mut partial = 0;
-    for _ in 0..2000 {
+    for _ in 0..1000 {
         let page = taste::sheet(&mut random, Size::Small);
         let n = page.fields();
         let (field, position) = forge::setting(&mut random, &page);
@@ -103,7 +103,16 @@ fn kept_by_every_call_but_an_accepted_open() {
             partial += usize::from(number == Some(0) && matches!(step, Step::Call(given) if opens(given)));
         }
     }
-    assert!(partial > 1000, "{partial} accepted opens with some fields only");
+    partial
+}
+
+#[test]
+fn kept_by_every_call_but_an_accepted_open() {
+    std::thread::scope(|scope| {
+        for seed in [2, 4] {
+            scope.spawn(move || assert!(opened_again_and_again(seed) > 500, "accepted opens with some fields only, from seed {seed}"));
+        }
+    });
 }
 
 /// The number of a call on a session without decisions and events that has this mask.
