@@ -8,8 +8,9 @@ use belaykeel::{Engine, Session};
 use harness::library::{Lent, Library};
 use harness::linked::Linked;
 use harness::sheets::{bytes, numbers};
+use public_calls::Call;
 use random::Random;
-use solver::{Call, Sheet};
+use solver::Sheet;
 
 /// A sheet's list of numbers to solve, with its start set, the order of its fields and the mask of those that are selected.
 #[derive(Clone, Debug)]

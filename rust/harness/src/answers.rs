@@ -3,18 +3,14 @@
 use crate::case::enough;
 use crate::library::{Lent, Library};
 use crate::selections::all;
-use crate::wrapped::Wrapped;
+use crate::wrapped::{fields, Wrapped};
 use belaykeel::{Engine, Session, Sheet};
 use public_calls::Call;
-
-fn fields(sheet: &Sheet) -> usize {
-    sheet.as_bytes()[0].into()
-}
 
 /// What the last of these calls gives: the masks or the number. The calls before it are accepted.
 pub fn answer(sheet: &Sheet, engine: Engine, calls: &[Call]) -> Result<Vec<u32>, u32> {
     let [mut offers, mut rows, mut memory] = ["offers", "rows", "memory"].map(|space| vec![0; enough(space)]);
-    let order: Vec<u8> = (0..).take(fields(sheet)).collect();
+    let order: Vec<u8> = (0..).take(fields(sheet.as_bytes())).collect();
     let (mut library, mut session) = (Wrapped::default(), Session::default());
     let mut make = |call: &Call| {
         let (sheet, engine, order) = (sheet.as_bytes(), engine.number(), &order[..]);
@@ -24,13 +20,13 @@ pub fn answer(sheet: &Sheet, engine: Engine, calls: &[Call]) -> Result<Vec<u32>,
     let (end, before) = calls.split_last().expect("a call");
     before.iter().for_each(|call| assert_eq!(make(call), 0, "{call:?}"));
     match make(end) {
-        0 => Ok(offers[..fields(sheet)].to_vec()),
+        0 => Ok(offers[..fields(sheet.as_bytes())].to_vec()),
         number => Err(number),
     }
 }
 
 /// The same after an open with every field selected; without a call, what that open gives.
 pub fn last(sheet: &Sheet, engine: Engine, calls: &[Call]) -> Result<Vec<u32>, u32> {
-    let open = Call::Open(all(fields(sheet)));
+    let open = Call::Open(all(fields(sheet.as_bytes())));
     answer(sheet, engine, &[&[open], calls].concat())
 }

@@ -3,7 +3,7 @@
 
 use crate::case::{Case, Given, Step};
 use crate::library::{Answer, Lent, Library};
-use crate::spaces::{Fill, Guarded, Space};
+use crate::spaces::{Fill, Guarded, GuardedSpace};
 use crate::words::words;
 use belaykeel::Session;
 use solver::{Arguments, Effect, State};
@@ -25,7 +25,7 @@ struct Spaces {
     rows: Guarded<u32>,
     memory: Guarded<u32>,
     /// Those that not every call with a session has.
-    own: BTreeMap<&'static str, Space>,
+    own: BTreeMap<&'static str, GuardedSpace>,
 }
 
 /// The spaces that every call with a session has.
@@ -40,7 +40,7 @@ impl Spaces {
         self.own.clear();
         for parameter in given.call.row().parameters.iter().filter(|parameter| parameter.sort.is_lent()) {
             if !SHARED.contains(&parameter.name) {
-                let mut space = Space::of(parameter.sort);
+                let mut space = GuardedSpace::of(parameter.sort);
                 space.prepare(given.length(parameter.name), Fill::Noise(seed));
                 self.own.insert(parameter.name, space);
             }
@@ -58,7 +58,7 @@ impl Spaces {
     }
 
     fn guards_whole(&self) -> bool {
-        [&self.offers, &self.rows, &self.memory].into_iter().all(Guarded::guards_whole) && self.own.values().all(Space::guards_whole)
+        [&self.offers, &self.rows, &self.memory].into_iter().all(Guarded::guards_whole) && self.own.values().all(GuardedSpace::guards_whole)
     }
 }
 

@@ -1,6 +1,6 @@
 //! A lent space between guard words, so that a write past either end is seen.
 
-use crate::library;
+use crate::library::Space;
 use crate::Random;
 use public_calls::Sort;
 
@@ -80,46 +80,46 @@ impl<W: Word> Guarded<W> {
 }
 
 /// A guarded space of either sort of word.
-pub enum Space {
+pub enum GuardedSpace {
     Bytes(Guarded<u8>),
     Words(Guarded<u32>),
 }
 
-impl Space {
+impl GuardedSpace {
     /// A space for a parameter of this sort.
-    pub fn of(sort: Sort) -> Space {
+    pub fn of(sort: Sort) -> GuardedSpace {
         match sort {
-            Sort::WrittenBytes => Space::Bytes(Guarded::default()),
-            _ => Space::Words(Guarded::default()),
+            Sort::WrittenBytes => GuardedSpace::Bytes(Guarded::default()),
+            _ => GuardedSpace::Words(Guarded::default()),
         }
     }
 
     pub fn prepare(&mut self, length: usize, fill: Fill) {
         match self {
-            Space::Bytes(bytes) => bytes.prepare(length, fill),
-            Space::Words(words) => words.prepare(length, fill),
+            GuardedSpace::Bytes(bytes) => bytes.prepare(length, fill),
+            GuardedSpace::Words(words) => words.prepare(length, fill),
         }
     }
 
-    pub fn lent(&mut self) -> library::Space<'_> {
+    pub fn lent(&mut self) -> Space<'_> {
         match self {
-            Space::Bytes(bytes) => library::Space::Bytes(bytes.lent()),
-            Space::Words(words) => library::Space::Words(words.lent()),
+            GuardedSpace::Bytes(bytes) => Space::Bytes(bytes.lent()),
+            GuardedSpace::Words(words) => Space::Words(words.lent()),
         }
     }
 
     /// What the space holds, as words of 32 bits.
     pub fn held(&mut self) -> Vec<u32> {
         match self {
-            Space::Bytes(bytes) => bytes.lent().iter().map(|&byte| byte.into()).collect(),
-            Space::Words(words) => words.lent().to_vec(),
+            GuardedSpace::Bytes(bytes) => bytes.lent().iter().map(|&byte| byte.into()).collect(),
+            GuardedSpace::Words(words) => words.lent().to_vec(),
         }
     }
 
     pub fn guards_whole(&self) -> bool {
         match self {
-            Space::Bytes(bytes) => bytes.guards_whole(),
-            Space::Words(words) => words.guards_whole(),
+            GuardedSpace::Bytes(bytes) => bytes.guards_whole(),
+            GuardedSpace::Words(words) => words.guards_whole(),
         }
     }
 }

@@ -26,7 +26,7 @@ fn refused(refusal: Refusal) -> Answer {
 }
 
 /// How many fields a sheet says that it has, at most 24.
-fn fields(sheet: &[u8]) -> usize {
+pub fn fields(sheet: &[u8]) -> usize {
     sheet.first().map_or(0, |&first| usize::from(first).min(OFFERS_WORDS))
 }
 

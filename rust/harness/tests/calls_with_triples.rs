@@ -2,7 +2,7 @@
 
 use belaykeel::{Engine, Refusal, Sheet};
 use harness::answers::{answer, last};
-use solver::Call;
+use public_calls::Call;
 
 /// Every engine at these reaches.
 fn engines_at(reaches: &[u32]) -> Vec<(Engine, u32)> {

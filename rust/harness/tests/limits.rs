@@ -29,5 +29,6 @@ fn header_and_wrapper() {
     let most_triples = ["u32", "usize"].map(|kind| format!("pub const MOST_TRIPLES: {kind} = {};", solver::MOST_TRIPLES));
     assert!(most_triples.iter().any(|line| code.contains(line)), "{most_triples:?}");
     assert_eq!(solver::LARGEST_SETTING, raw::LARGEST_SETTING);
+    assert_eq!(solver::MOST_EVENTS, EVENTS);
     assert_eq!(solver::ENCODER_TOLERANCE, raw::ENCODER_TOLERANCE);
 }

@@ -9,8 +9,9 @@ use harness::shapes::Size;
 use harness::sheets::bytes;
 use harness::text::print;
 use harness::{forge, taste, Random};
+use public_calls::Call;
 use solver::network::includes;
-use solver::{Call, Network, Set};
+use solver::{Network, Set};
 
 /// The offers that open gives, as a set; nothing where they are wiped out.
 fn opened(sheet: &Sheet, engine: Engine, order: &Order, selected: u32, spaces: &mut WorkSpaces) -> Option<Set> {

@@ -8,7 +8,8 @@ use harness::linked::Linked;
 use harness::repository::lines;
 use harness::shapes::every;
 use harness::sheets::{bytes, most_triples};
-use solver::{Call, Rule, Sheet};
+use public_calls::Call;
+use solver::{Rule, Sheet};
 use std::process::{Command, Stdio};
 use std::thread::Builder;
 

@@ -29,12 +29,21 @@ pub struct Effect {
     pub written: Vec<(&'static str, Vec<u32>)>,
 }
 
-fn choice(field: u32, position: u32) -> Decision {
-    Decision { sort: Sort::Choice, field, position }
-}
-
-fn strike(field: u32, position: u32) -> Decision {
-    Decision { sort: Sort::Strike, field, position }
+/// The step of a call that takes just one.
+pub fn step(call: &Call) -> Option<Step> {
+    let choice = |field, position| Decision { sort: Sort::Choice, field, position };
+    let strike = |field, position| Decision { sort: Sort::Strike, field, position };
+    match *call {
+        Call::Open(selected) => Some(Step::Open(selected)),
+        Call::Show => Some(Step::Show),
+        Call::Choose(f, v) => Some(Step::Add(Event::Added(choice(f, v)))),
+        Call::Strike(f, v) => Some(Step::Add(Event::Added(strike(f, v)))),
+        Call::WithdrawChoice(f, v) => Some(Step::Add(Event::Withdrawn(choice(f, v)))),
+        Call::WithdrawStrike(f, v) => Some(Step::Add(Event::Withdrawn(strike(f, v)))),
+        Call::Back => Some(Step::Back),
+        Call::CoilOn => Some(Step::CoilOn),
+        Call::Read | Call::Write(_) => None,
+    }
 }
 
 impl State {
@@ -45,17 +54,11 @@ impl State {
 
     /// All that a call does here.
     pub fn effect(&self, call: &Call, given: &Arguments) -> Effect {
-        match *call {
-            Call::Open(selected) => self.single(Step::Open(selected), given),
-            Call::Show => self.single(Step::Show, given),
-            Call::Choose(f, v) => self.single(Step::Add(Event::Added(choice(f, v))), given),
-            Call::Strike(f, v) => self.single(Step::Add(Event::Added(strike(f, v))), given),
-            Call::WithdrawChoice(f, v) => self.single(Step::Add(Event::Withdrawn(choice(f, v))), given),
-            Call::WithdrawStrike(f, v) => self.single(Step::Add(Event::Withdrawn(strike(f, v))), given),
-            Call::Back => self.single(Step::Back, given),
-            Call::CoilOn => self.single(Step::CoilOn, given),
-            Call::Read => self.output(reading::read(given.sheet, given.length("output"))),
-            Call::Write(ref numbers) => self.output(reading::write(numbers, given.length("output"))),
+        match (step(call), call) {
+            (Some(step), _) => self.single(step, given),
+            (None, Call::Read) => self.output(reading::read(given.sheet, given.length("output"))),
+            (None, Call::Write(numbers)) => self.output(reading::write(numbers, given.length("output"))),
+            (None, _) => unreachable!("{call:?} takes a step"),
         }
     }
 
@@ -75,7 +78,7 @@ impl State {
     /// A call of one step. A refused one changes nothing.
     fn single(&self, step: Step, given: &Arguments) -> Effect {
         let held = self.ledger.clone().or_else(|| ledger(&self.session));
-        let settled = prepare(held.as_ref(), step, given).and_then(|(page, ledger)| page.settle(&ledger, step));
+        let settled = prepare(held.as_ref(), step, given).and_then(|(prepared, ledger)| prepared.settle(&ledger, step));
         match settled {
             Err(number) => self.unchanged(number, vec![], vec![]),
             Ok((next, offers)) => {

@@ -2,6 +2,7 @@
 
 use crate::network::Set;
 use crate::sheet::Sheet;
+use crate::MOST_EVENTS;
 use std::collections::BTreeSet;
 
 #[derive(Clone, Copy, Debug, PartialEq, Eq, PartialOrd, Ord)]
@@ -97,7 +98,7 @@ impl Ledger {
             Event::Withdrawn(decision) if !self.decisions.remove(&decision) => return Err(11),
             _ => (),
         }
-        if self.events.len() == 64 {
+        if self.events.len() == MOST_EVENTS {
             return Err(12);
         }
         self.events.push(event);
@@ -116,7 +117,7 @@ impl Ledger {
     pub fn malformed(&self, sheet: &Sheet) -> bool {
         let on_sheet = |decision: &Decision| sheet.has(decision.field, decision.position);
         let mut past = self.clone();
-        self.events.len() > 64
+        self.events.len() > MOST_EVENTS
             || !sheet.selects(self.selected)
             || !self.decisions.iter().all(on_sheet)
             || !self.events.iter().all(|event| on_sheet(&event.decision()))

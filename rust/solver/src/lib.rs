@@ -16,7 +16,6 @@ pub mod stages;
 pub use effect::{Effect, State};
 pub use ledger::{Decision, Event, Ledger, Sort, Step};
 pub use network::{Network, Set};
-pub use public_calls::Call;
 pub use session::Words;
 pub use sheet::{Rule, Sheet, Triple};
 pub use stages::Arguments;
@@ -29,6 +28,9 @@ pub const LARGEST_SETTING: u32 = 1_000_000;
 
 /// How far the distance of a pair may be from c under kind 5, in micrometres: request 6 of 02.
 pub const ENCODER_TOLERANCE: u32 = 2;
+
+/// The most events of a session.
+pub const MOST_EVENTS: usize = 64;
 
 /// The most triple rules of a sheet: request 12 of 02.
 pub const MOST_TRIPLES: u32 = 32;

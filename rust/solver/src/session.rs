@@ -4,13 +4,8 @@
 //! mask of selected fields.
 
 use crate::ledger::{Decision, Event, Ledger, Sort};
-use crate::MOST;
+use crate::{MOST, MOST_EVENTS};
 use std::ops::Range;
-
-/// How many words a session has.
-pub const WORDS: usize = 242;
-
-pub type Words = [u32; WORDS];
 
 /// The places of the masks of choices.
 pub const CHOICES: Range<usize> = 0..MOST;
@@ -18,12 +13,14 @@ pub const CHOICES: Range<usize> = 0..MOST;
 pub const STRIKES: Range<usize> = MOST..2 * MOST;
 /// The place of the first event.
 const EVENTS: usize = 2 * MOST;
-/// How many events a session has room for.
-pub const MOST_EVENTS: usize = 64;
 /// The place of the count.
 pub const COUNT: usize = EVENTS + 3 * MOST_EVENTS;
 /// The place of the mask of selected fields.
 pub const SELECTED: usize = COUNT + 1;
+/// How many words a session has.
+pub const WORDS: usize = SELECTED + 1;
+
+pub type Words = [u32; WORDS];
 
 /// The places of an event: its kind, field and position.
 pub fn event_place(event: usize) -> Range<usize> {

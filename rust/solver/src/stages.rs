@@ -66,15 +66,15 @@ pub fn setting(event: Event, sheet: &Sheet) -> Result<(), u32> {
 }
 
 /// A sheet with its network, which is built once however many steps are settled.
-pub struct Page {
+pub struct Prepared {
     pub sheet: Sheet,
     pub network: Network,
 }
 
-impl Page {
-    pub fn of(sheet: Sheet) -> Page {
+impl Prepared {
+    pub fn of(sheet: Sheet) -> Prepared {
         let network = Network::of(&sheet);
-        Page { sheet, network }
+        Prepared { sheet, network }
     }
 
     /// The ledger after a step, and its offers; or 10, 11, 13, 12, or 14: wiped out under the decisions that would hold.
@@ -87,8 +87,8 @@ impl Page {
 }
 
 /// What is judged before the step of a single call: 6; 1 to 5; 15, at open 18 in its place; 7; 9. Engine 2 runs at every reach and 8 is
-/// never given: request 2 of 02. Gives the page, and the ledger that the step is taken from.
-pub fn prepare(held: Option<&Ledger>, step: Step, given: &Arguments) -> Result<(Page, Ledger), u32> {
+/// never given: request 2 of 02. Gives the sheet with its network, and the ledger that the step is taken from.
+pub fn prepare(held: Option<&Ledger>, step: Step, given: &Arguments) -> Result<(Prepared, Ledger), u32> {
     given.spaces()?;
     let sheet = reading::sheet(given.sheet)?;
     let ledger = match step {
@@ -100,5 +100,5 @@ pub fn prepare(held: Option<&Ledger>, step: Step, given: &Arguments) -> Result<(
         setting(event, &sheet)?;
     }
     given.order(&sheet)?;
-    Ok((Page::of(sheet), ledger))
+    Ok((Prepared::of(sheet), ledger))
 }

@@ -1,8 +1,9 @@
 //! The worked cases of the scope paper and of the later requests.
 
+use public_calls::Call;
 use solver::reading::{groups, read, sheet};
 use solver::session::{SELECTED, WORDS};
-use solver::{Arguments, Call, Effect, Network, State};
+use solver::{Arguments, Effect, Network, State};
 
 const SHEET_D: [u8; 19] =
     [0x02, 0x03, 0x64, 0xC8, 0x01, 0xAC, 0x02, 0x03, 0x64, 0xC8, 0x01, 0xAC, 0x02, 0x18, 0x01, 0x00, 0x01, 0x01, 0x64];

@@ -15,7 +15,8 @@ use benchmarks::task::{Job, Spaces, Task};
 use benchmarks::WHOLE_REACH;
 use harness::library::Library;
 use harness::linked::Linked;
-use solver::{Call, Sheet};
+use public_calls::Call;
+use solver::Sheet;
 use std::hint::black_box;
 use std::time::Instant;
 

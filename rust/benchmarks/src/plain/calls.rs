@@ -7,7 +7,7 @@ use crate::{Domains, MOST};
 use belaykeel::raw::{MEMORY_WORDS, OFFERS_WORDS, ROWS_WORDS, SHEET_NUMBERS};
 use belaykeel::{Event, Session, EVENTS};
 use harness::library::{Answer, Lent, Library};
-use solver::Call;
+use public_calls::Call;
 
 /// A method to find the offers, with the numbers of the sheet, the start set, the order and the mask of selected fields that it is given.
 pub struct Plain {

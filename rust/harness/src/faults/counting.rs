@@ -72,7 +72,8 @@ pub(super) fn counted(page: &Page, fault: Variation) -> Option<Set> {
 /// A field and a position.
 type Setting = (usize, usize);
 
-fn positions(mask: u32) -> impl Iterator<Item = usize> {
+/// The places of the bits of a mask.
+pub(super) fn positions(mask: u32) -> impl Iterator<Item = usize> {
     (0..MOST).filter(move |v| mask >> v & 1 == 1)
 }
 

@@ -5,8 +5,9 @@ use crate::linked::Linked;
 use crate::words::{session, words};
 use belaykeel::Session;
 use public_calls::Call;
+use solver::effect::step;
 use solver::session::{ledger, words_after};
-use solver::{reading, Decision, Event, Ledger, Sheet, Sort, Step};
+use solver::{reading, Ledger, Sheet};
 
 /// A number, with 0 for all else that the call answers.
 pub fn answer(call: &Call, number: u32) -> Answer {
@@ -21,22 +22,6 @@ pub fn sheet(lent: &Lent) -> Sheet {
 /// Makes show in the place of another call.
 pub fn show(_: &Call, lent: &mut Lent) -> Answer {
     Linked.call(&Call::Show, lent)
-}
-
-fn step(call: &Call) -> Option<Step> {
-    let choice = |field, position| Decision { sort: Sort::Choice, field, position };
-    let strike = |field, position| Decision { sort: Sort::Strike, field, position };
-    match *call {
-        Call::Open(selected) => Some(Step::Open(selected)),
-        Call::Show => Some(Step::Show),
-        Call::Choose(f, v) => Some(Step::Add(Event::Added(choice(f, v)))),
-        Call::Strike(f, v) => Some(Step::Add(Event::Added(strike(f, v)))),
-        Call::WithdrawChoice(f, v) => Some(Step::Add(Event::Withdrawn(choice(f, v)))),
-        Call::WithdrawStrike(f, v) => Some(Step::Add(Event::Withdrawn(strike(f, v)))),
-        Call::Back => Some(Step::Back),
-        Call::CoilOn => Some(Step::CoilOn),
-        _ => None,
-    }
 }
 
 /// The session after the step of a call, with its ledger; none where the call has no step that can be made.

@@ -1,10 +1,11 @@
 //! Faults of engines: what they close and test.
 
+use super::counting::positions;
 use super::page::{every, Page};
 use super::Fault;
 use super::How::Offers;
 use crate::methods::sac2;
-use solver::{Network, Set, Sheet, MOST};
+use solver::{Network, Set, Sheet};
 
 pub static ROWS: &[Fault] = &[
     Fault { name: "only_closes", promise: "5.6", says: "The offers are the closed start set.", how: Offers(|page| Some(page.start)) },
@@ -77,8 +78,8 @@ pub static ROWS: &[Fault] = &[
 ];
 
 /// The positions of a field that fail a test.
-fn failing(set: &Set, f: usize, passes: impl Fn(&Set, usize, usize) -> bool) -> Vec<usize> {
-    (0..MOST).filter(|&v| set[f] >> v & 1 == 1 && !passes(set, f, v)).collect()
+pub(super) fn failing(set: &Set, f: usize, passes: impl Fn(&Set, usize, usize) -> bool) -> Vec<usize> {
+    positions(set[f]).filter(|&v| !passes(set, f, v)).collect()
 }
 
 /// Makes passes over the visited fields until all of their settings pass. A removal is followed by closing, over some fields only.

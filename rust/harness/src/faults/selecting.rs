@@ -1,14 +1,15 @@
 //! Faults in using, judging, keeping and setting the mask of selected fields.
 
+use super::counting::positions;
 use super::making::{answer, sheet};
-use super::offers::closing_few;
+use super::offers::{closing_few, failing};
 use super::page::{every, Page};
 use super::Fault;
 use super::How::{Accepted, Instead, Number, Offers, Refused};
 use crate::library::{Answer, Lent, Library};
 use crate::linked::Linked;
 use public_calls::Call;
-use solver::{Network, Set, MOST};
+use solver::{Network, Set};
 
 pub static ROWS: &[Fault] = &[
     Fault {
@@ -39,7 +40,9 @@ pub static ROWS: &[Fault] = &[
         name: "closes_selected",
         promise: "5.6",
         says: "After a removal only the selected fields are closed again.",
-        how: Offers(|page| Some(closing_few(&page.network, page.start, &page.visited, &fields(page.selected())))),
+        how: Offers(|page| {
+            Some(closing_few(&page.network, page.start, &page.visited, &positions(page.selected()).collect::<Vec<usize>>()))
+        }),
     },
     Fault {
         name: "closes_nearby",
@@ -158,14 +161,9 @@ fn with_mask(selected: u32, call: &Call, lent: &mut Lent) -> Answer {
     answer
 }
 
-/// The fields of a mask.
-fn fields(selected: u32) -> Vec<usize> {
-    (0..MOST).filter(|f| selected >> f & 1 == 1).collect()
-}
-
 /// The selected fields, and those one rule away from one of them.
 fn nearby(page: &Page) -> Vec<usize> {
-    let near = |g: usize| fields(page.selected()).into_iter().any(|f| f == g || page.network.joined(f, g));
+    let near = |g: usize| positions(page.selected()).any(|f| f == g || page.network.joined(f, g));
     (0..page.network.fields()).filter(|&g| near(g)).collect()
 }
 
@@ -187,9 +185,8 @@ fn testing_among(page: &Page) -> Set {
     let seen = Network::of(&seen);
     loop {
         let before = set;
-        for f in fields(selected) {
-            let failing: Vec<usize> = (0..MOST).filter(|&v| set[f] >> v & 1 == 1 && !seen.passes(&set, f, v)).collect();
-            failing.into_iter().for_each(|v| set[f] &= !(1 << v));
+        for f in positions(selected) {
+            failing(&set, f, |set, f, v| seen.passes(set, f, v)).into_iter().for_each(|v| set[f] &= !(1 << v));
         }
         set = page.network.closing(set, &every(&page.network));
         if set == before {

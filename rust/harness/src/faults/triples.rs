@@ -1,9 +1,9 @@
 //! Faults in using triples.
 
-use super::counting::{counted, Variation};
+use super::counting::{counted, positions, Variation};
 use super::Fault;
 use super::How::Offers;
-use solver::{Network, Set, Sheet, Triple, MOST};
+use solver::{Network, Set, Sheet, Triple};
 
 pub static ROWS: &[Fault] = &[
     Fault {
@@ -49,10 +49,6 @@ pub static ROWS: &[Fault] = &[
         how: Offers(|page| counted(page, Variation::OutsideNotStruck)),
     },
 ];
-
-fn positions(mask: u32) -> impl Iterator<Item = usize> {
-    (0..MOST).filter(move |v| mask >> v & 1 == 1)
-}
 
 /// Whether a triple allows these positions of its fields.
 fn allowed(sheet: &Sheet, triple: &Triple, positions: [usize; 3], fault: Option<Variation>) -> bool {
