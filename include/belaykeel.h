@@ -4,10 +4,10 @@
  * selected field passes its test (is singleton arc consistent), over neighbourhoods of the sheet's reach; at reach 24 that is the whole
  * sheet. No call chooses a set-up, and wiped out (14) is the only verdict: offers in every field do not show that a complete set-up exists.
  *
- * Every call returns 0, or the number of the first cause of its refusal (the table below); a refused call leaves session, offers list,
- * number list and output as they were, and one refused by 6 the work spaces too. No call allocates, and none asks anything of its arguments
- * but what C asks: each pointer is valid for its length (and not NULL, even where the length is 0), and what a call writes (session,
- * numbers, offers, rows, memory, output) overlaps nothing else that it is given.
+ * Every call returns 0, or the number of the first cause of its refusal (the table below); a refused call leaves session, offers list and
+ * output as they were, and one refused by 6 the work spaces too. No call allocates, and none asks anything of its arguments but what C
+ * asks: each pointer is valid for its length (and not NULL, even where the length is 0), and what a call writes (session, offers, rows,
+ * memory, output) overlaps nothing else that it is given.
  *
  * A call that gives offers needs about 163,000 bytes of stack; 196,608 bytes are enough. The arrays of closing are 80,640 of the 163,000:
  * counts 2 x 11,520, support sets 55,296, removal list 2,304. The table of the triples is 74,308.
@@ -26,7 +26,6 @@ extern "C" {
 #define BELAYKEEL_LARGEST_SETTING 1000000 /* the largest setting, and the largest number c of a rule or triple, in micrometres */
 #define BELAYKEEL_ENCODER_TOLERANCE 2 /* how far the distance of a pair may be from c under kind 5, in micrometres */
 #define BELAYKEEL_EVENTS 64 /* the most events of a session */
-#define BELAYKEEL_ENTRIES 64 /* the most entries of a list */
 #define BELAYKEEL_SHEET_BYTES 29273 /* the most bytes of a sheet */
 #define BELAYKEEL_SHEET_NUMBERS 8184 /* the most numbers of a sheet */
 #define BELAYKEEL_OFFERS_WORDS 24 /* the least words of the offers list */
@@ -34,8 +33,7 @@ extern "C" {
 #define BELAYKEEL_MEMORY_WORDS 13824 /* the least words of the second work space */
 
 /* The numbers, in words. The calls with a session try them in the order 6; 1 to 5; 15, at open 18 in its place; 7, 9, 10, 11, 13, 12, 14.
- * The list call has 16 directly after 6, and of the others 1 to 5, 15, 7 for the engine and 9; its entries have 7, 10, 11, 12, 14. Reading
- * and writing try 1 to 5 first and 6 last; writing alone has 20, directly after 3. */
+ * Reading and writing try 1 to 5 first and 6 last; writing alone has 20, directly after 3. */
 enum {
     BELAYKEEL_ACCEPTED = 0,
     BELAYKEEL_ENDS_INSIDE = 1, /* bytes or numbers end inside the sheet */
@@ -43,8 +41,8 @@ enum {
     BELAYKEEL_OUT_OF_RANGE = 3, /* a number of the sheet is outside its range */
     BELAYKEEL_OUT_OF_ORDER = 4, /* settings, rules or triples do not rise, or the fields of a rule or triple do not */
     BELAYKEEL_SURPLUS = 5, /* bytes or numbers follow the sheet's end */
-    BELAYKEEL_TOO_SHORT = 6, /* the offers list, a work space, the number list or the output is too short */
-    BELAYKEEL_UNKNOWN = 7, /* the engine is not 1 to 3, the field or position is not on the sheet, or an entry's code is not 1 to 4 */
+    BELAYKEEL_TOO_SHORT = 6, /* the offers list, a work space or the output is too short */
+    BELAYKEEL_UNKNOWN = 7, /* the engine is not 1 to 3, or the field or position is not on the sheet */
     BELAYKEEL_TOO_NARROW = 8, /* never given: engine 2 runs at every reach */
     BELAYKEEL_NO_ORDER = 9, /* the order does not hold every field just one time */
     BELAYKEEL_ADDED_AGAIN = 10, /* the decision to add is in force */
@@ -53,7 +51,6 @@ enum {
     BELAYKEEL_NOTHING_PAST = 13, /* back, and there is no event */
     BELAYKEEL_WIPED_OUT = 14, /* under the decisions that would hold after the call a field has no offer */
     BELAYKEEL_MALFORMED = 15, /* the session is malformed */
-    BELAYKEEL_NOT_ENTRIES = 16, /* the length of the list is no multiple of three, or it has over 64 entries */
     BELAYKEEL_NO_SELECTION = 18, /* the mask of selected fields is empty or names a field beyond the sheet */
     BELAYKEEL_RETIRED = 20 /* the writer met a rule of kind 2, which is read but no longer written */
 };
@@ -98,10 +95,7 @@ typedef struct {
  *   selected           the mask of selected fields: bit f means that every setting offered in field f passes its test; the offers of the
  *                      other fields are closed only. (1 << n) - 1 selects all n fields of a sheet
  *   field, position    the decision, counted from 0
- *   list               decisions, three bytes an entry: a code (1 choose, 2 strike, 3 withdraw choice, 4 withdraw strike), field, position
- *   numbers            a list call that is not refused writes the number of each entry, 0 or that of its refusal; later words stay
- *   offers             an accepted call writes a mask for each field of the sheet: bit v means that position v is offered; later words
- *                      stay, and a list call of which no entry is accepted writes nothing
+ *   offers             an accepted call writes a mask for each field of the sheet: bit v means that position v is offered; later words stay
  *   rows, memory       work spaces; what they hold before does not matter, and they may hold anything afterwards, except where 6 refuses:
  *                      then they too are as they were
  */
@@ -138,15 +132,6 @@ uint32_t belaykeel_back(belaykeel_session *session, const uint8_t *sheet, size_t
 /* Drops all events; the decisions remain. */
 uint32_t belaykeel_coil_on(belaykeel_session *session, const uint8_t *sheet, size_t sheet_len, uint32_t engine, const uint8_t *order,
     size_t order_len, uint32_t *offers, size_t offers_len, uint32_t *rows, size_t rows_len, uint32_t *memory, size_t memory_len);
-
-/* Makes the decisions of a list in turn: session, offers and numbers are those of the single calls. An entry that is refused, also by 7 for
- * another code, is passed over, and the rest go on. The offers are those after the latest entry that was accepted; with none accepted the
- * offers list stays as it was. What is wrong with a length, the sheet, the session, the engine or the order refuses the whole call, and
- * numbers stay as they were; otherwise it returns 0, also where every entry is refused or there is none. The sheet is read once, so a list
- * costs less than its single calls. */
-uint32_t belaykeel_list(belaykeel_session *session, const uint8_t *sheet, size_t sheet_len, uint32_t engine, const uint8_t *order,
-    size_t order_len, const uint8_t *list, size_t list_len, uint32_t *numbers, size_t numbers_len, uint32_t *offers, size_t offers_len,
-    uint32_t *rows, size_t rows_len, uint32_t *memory, size_t memory_len);
 
 /* Reads a sheet's bytes to its list of numbers, and writes such a list as bytes. Refused by 1 to 5 first and by 6 last; places past the
  * output stay as they were. Rules of kind 2 are read and not written: in the list such a kind is refused by 20, where no number before it

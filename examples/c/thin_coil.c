@@ -1,5 +1,5 @@
 /* The thin coil: a strike, a later choice, and the strike withdrawn. An engine that put back what the strike had removed would show (6, 3)
- * after that. Then the same decisions as a list, with two entries that are refused and passed over. */
+ * at the end. */
 #include "belaykeel.h"
 
 #include <stdio.h>
@@ -44,23 +44,6 @@ static void print_numbers(const uint8_t *sheet, size_t len)
     printf("\n");
 }
 
-/* Strike 0/2, choose 1/1, a code that is none, choose 1/0, withdraw the strike. */
-static const uint8_t decisions[] = {2, 0, 2, 1, 1, 1, 9, 0, 0, 1, 1, 0, 4, 0, 2};
-
-/* Sends decisions as a list, and prints the number of each entry. */
-static void print_list(belaykeel_session *session, const uint8_t *sheet, size_t len, const uint8_t *list, size_t list_len)
-{
-    uint32_t numbers[BELAYKEEL_ENTRIES];
-    uint32_t number = belaykeel_list(session, GIVEN, list, list_len, numbers, BELAYKEEL_ENTRIES, LENT);
-    print("list", number);
-    if (number != BELAYKEEL_ACCEPTED)
-        return;
-    printf("  numbers of the entries:");
-    for (size_t k = 0; k < list_len / 3; k++)
-        printf(" %u", (unsigned)numbers[k]);
-    printf("\n");
-}
-
 int main(int argc, char **argv)
 {
     static uint8_t sheet[BELAYKEEL_SHEET_BYTES + 1];
@@ -90,10 +73,5 @@ int main(int argc, char **argv)
     print("coil on", belaykeel_coil_on(&session, GIVEN, LENT));
     print("back", belaykeel_back(&session, GIVEN, LENT));
     print("withdraw the choice", belaykeel_withdraw_choice(&session, GIVEN, 1, 0, LENT));
-
-    print("open", belaykeel_open(&session, GIVEN, selected, LENT));
-    print_list(&session, sheet, len, decisions, sizeof decisions);
-    print_session(&session);
-    print_list(&session, sheet, len, decisions, sizeof decisions - 1);
     return 0;
 }

@@ -25,7 +25,7 @@ pub record Facts (xs : List ℕ) : Type 0 where
   pub field_end : (f : ℕ) → f < fields_of xs → field_start xs f + 1 + count_of xs f < length xs
   pub setting-le : (f v : ℕ) → f < fields_of xs → v < count_of xs f → setting_of xs f v ≤ largest_setting
   pub setting-rise : (f v : ℕ) → f < fields_of xs → suc v < count_of xs f → setting_of xs f v < setting_of xs f (suc v)
-  pub tail-end : field_start xs (fields_of xs) + 2 ≤ length xs
+  pub tail_end : field_start xs (fields_of xs) + 2 ≤ length xs
   pub reach-some : 1 ≤ reach_of xs
   pub reach_few : reach_of xs ≤ whole_reach
   pub rules-few : rules_of xs ≤ most_rules
@@ -39,7 +39,7 @@ pub record Facts (xs : List ℕ) : Type 0 where
   pub amount_le : (r : ℕ) → r < rules_of xs → (kind_of xs r ≡ 0 → ⊥) → value_of xs r 0 ≤ largest_setting
   pub rule-rise : (r : ℕ) → suc r < rules_of xs → key (first_of xs r) (second_of xs r) < key (first_of xs (suc r)) (second_of xs (suc r))
   pub triples-few : triples_of xs ≤ most_triples
-  pub triple-end : (t : ℕ) → t < triples_of xs → triple_start xs t + 3 < length xs
+  pub triple_end : (t : ℕ) → t < triples_of xs → triple_start xs t + 3 < length xs
   pub triple-apart : (t : ℕ) → t < triples_of xs → triple_first xs t < triple_second xs t
   pub triple-above : (t : ℕ) → t < triples_of xs → triple_second xs t < triple_third xs t
   pub triple-within : (t : ℕ) → t < triples_of xs → triple_third xs t < fields_of xs
@@ -132,7 +132,7 @@ module _ (xs : List ℕ) (t : IsSheet xs) where
         let l : suc v < length (get_or t.sheet.fields f []) = rw (count-is xs t f (in_fields h)) at k in
         rw (setting-is xs t f v (in_fields h) (omega arith), setting-is xs t f (suc v) (in_fields h) l)
         (rises_next 0 _ (t.right.field f (in_fields h)).rise v l);
-    tail-end = tail-ends xs t;
+    tail_end = tail-ends xs t;
     reach-some = rw (reach-is xs t) t.right.reach-some;
     reach_few = rw (reach-is xs t) t.right.reach_few;
     rules-few = rw (rules-is xs t) t.right.rules-few;
@@ -163,7 +163,7 @@ module _ (xs : List ℕ) (t : IsSheet xs) where
         rw (first-is xs t r (omega arith), second_is xs t r (omega arith), first-is xs t (suc r) l, second_is xs t (suc r) l)
         (ruled-next (length t.sheet.fields) 0 (counted t.sheet) t.sheet.rules t.right.ruled r l);
     triples-few = rw (triples-is xs t) t.right.triples-few;
-    triple-end = λ k h. triple-ends xs t k (in_triples h);
+    triple_end = λ k h. triple-ends xs t k (in_triples h);
     triple-apart = λ k h.
         let l = in_triples h in rw (triple-first-is xs t k l, triple-second-is xs t k l) (triple-right xs t k l).apart;
     triple-above = λ k h.
@@ -192,7 +192,7 @@ facts xs e = sheet-facts xs (sheet-in xs e)
 -- each rule's place, and that after the last, lies within the list or at its end
 rule-start-le : (xs : List ℕ) → Accepted xs → (r : ℕ) → r ≤ rules_of xs → rule_start xs r ≤ length xs
 unfolding rule_start
-rule-start-le xs a zero h = (facts xs a).tail-end
+rule-start-le xs a zero h = (facts xs a).tail_end
 rule-start-le xs a (suc r) h = (facts xs a).rule-after r h
 
 pub triples-at-le : (xs : List ℕ) → Accepted xs → triples_at xs ≤ length xs
@@ -212,4 +212,4 @@ module _ (xs : List ℕ) (r place : ℕ) (g : RuleAt xs r place) where
 
 -- a triple that stands at a place
 pub triple-ends-at : (xs : List ℕ) (t place : ℕ) → TripleAt xs t place → place + 3 < length xs
-triple-ends-at xs t place g = rw g.at ((facts xs g.accepted).triple-end t g.within)
+triple-ends-at xs t place g = rw g.at ((facts xs g.accepted).triple_end t g.within)

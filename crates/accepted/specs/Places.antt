@@ -120,24 +120,24 @@ module _ (xs : List ℕ) (t : IsSheet xs) where
       (drop_past xs (field_start xs f) (length (get_or fs f []) ∷ get_or fs f []) (fields_numbers (drop (suc f) fs) ++ tail) (field_at f h)) in
       omega (arith, e, length-drop (field_start xs f + suc (length (get_or fs f []))) xs, length-append (fields_numbers (drop (suc f) fs)) tail)
 
-  end-from : drop (field_start xs (fields_of xs)) xs ≡ tail
+  end_from : drop (field_start xs (fields_of xs)) xs ≡ tail
   unfolding fields_numbers
-  end-from =
+  end_from =
       ap (λ (n : ℕ). drop (field_start xs n) xs) fields-count
       ∙ fields-from (length fs) (omega arith) ∙ ap (λ (l : List (List ℕ)). fields_numbers l ++ tail) (drop-length fs)
 
   pub reach-is : reach_of xs ≡ t.sheet.reach
   unfolding tail
-  reach-is = get_d_first xs (field_start xs (fields_of xs)) _ _ end-from
+  reach-is = get_d_first xs (field_start xs (fields_of xs)) _ _ end_from
 
   pub rules-is : rules_of xs ≡ length t.sheet.rules
   unfolding tail
-  rules-is = get_d_at xs (field_start xs (fields_of xs)) 1 _ _ end-from refl
+  rules-is = get_d_at xs (field_start xs (fields_of xs)) 1 _ _ end_from refl
 
   -- reach and number of rules stand before the end
   pub tail-ends : field_start xs (fields_of xs) + 2 ≤ length xs
   unfolding tail
-  tail-ends = omega (arith, ap length end-from, length-drop (field_start xs (fields_of xs)) xs)
+  tail-ends = omega (arith, ap length end_from, length-drop (field_start xs (fields_of xs)) xs)
 
   -- ---- the rules
 
@@ -174,7 +174,7 @@ module _ (xs : List ℕ) (t : IsSheet xs) where
 
   rules-from : (r : ℕ) → r ≤ length rs → drop (rule_start xs r) xs ≡ rules_numbers (drop r rs) ++ last
   unfolding rule_start tail
-  rules-from zero h = drop_past xs (field_start xs (fields_of xs)) (t.sheet.reach ∷ length rs ∷ []) (rules_numbers rs ++ last) end-from
+  rules-from zero h = drop_past xs (field_start xs (fields_of xs)) (t.sheet.reach ∷ length rs ∷ []) (rules_numbers rs ++ last) end_from
   rules-from (suc r) h =
       let ih = rules-from r (omega arith) in
       let d = values-size (rule_start xs r) r h ih in

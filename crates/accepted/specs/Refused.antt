@@ -32,15 +32,15 @@ before-few (TripleSecond triples floor i) = omega arith
 before-few (TripleThird triples floor i j) = omega arith
 before-few (TripleAmount triples floor) = omega arith
 
-end-few : (st : State) → at_end st ≤ 5
-end-few (Wants n e) = before-few e
-end-few Complete = omega arith
-end-few OutOfRange = omega arith
-end-few OutOfOrder = omega arith
+end_few : (st : State) → at_end st ≤ 5
+end_few (Wants n e) = before-few e
+end_few Complete = omega arith
+end_few OutOfRange = omega arith
+end_few OutOfOrder = omega arith
 
 refusal_from-few : (st : State) (ds : List ℕ) (is : List Item) → refusal_from st ds is ≤ 5
 unfolding refusal_from
-refusal_from-few st ds [] = end-few st
+refusal_from-few st ds [] = end_few st
 refusal_from-few st ds (num x ∷ is) = meets-few st _ (λ n e. refusal_from-few (advance n e ds x).0 (advance n e ds x).1 is)
 refusal_from-few st ds (cut ∷ is) = meets-few st _ (λ n e. omega arith)
 refusal_from-few st ds (ill ∷ is) = meets-few st _ (λ n e. omega arith)

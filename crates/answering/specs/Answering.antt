@@ -1,5 +1,5 @@
 -- An answer, put together from its parts. Assumes nothing.
-use Rattle.std.specs.Prelude.{◌≡◌, refl, Bool, true, false, List, ℕ, ◌≤◌, ltb, length}
+use Rattle.std.specs.Prelude.{◌≡◌, refl, Bool, true, false, ◌||◌, List, ℕ, ◌≤◌, ltb, length}
 use Rattle.std.proofs.Math.Path.{sym}
 use Rattle.std.proofs.Common.{◌∙◌, arith}
 use borrow.Author.Tests.{eq-eqb, ne_eqb, ltb-false}
@@ -12,16 +12,19 @@ use Rattle.accepted.specs.Accept.{bytes-accepted}
 use Rattle.accepted.specs.Outline.{outline_of}
 use Rattle.ledger.specs.declared.Call.{Call}
 use Rattle.ledger.specs.Ledger.{Given, Cause, step, wiped, space_short, no_selection, number, first, judged, is_order}
-use Rattle.ledger.specs.Causes.{first-end, first-applies, first_next}
+use Rattle.ledger.specs.Causes.{first_end, first-applies, first_next}
 use Rattle.ledger.specs.Laws.{SameLedger, alike-wiped, alike-offers}
 use Rattle.ledger.specs.Judging.{or_left, or_right, clear, clear-order, number_short, number-sheet, number-judged, number-offers}
 use Rattle.session.specs.declared.Session.{Session}
 use Rattle.session.specs.View.{view, Sized}
 use Rattle.session.specs.Steps.{stepped, StepAsks}
-use Rattle.judging.specs.Spaces.{short_by}
 use Rattle.answering.specs.Answer.{Spaces, given, refused, accepted, result, Answers}
 use Rattle.answering.specs.Settle.{Settled}
 use Rattle.answering.specs.TakesStep.{step-asks, shows-step, selects-step}
+
+-- too short, by lengths
+abbrev pub short_by : (offers rows memory : ℕ) → Bool
+short_by offers rows memory = ltb offers offers_words || (ltb rows rows_words || ltb memory memory_words)
 
 -- enough room, for the longest sheet too
 pub record Roomy (offers rows memory : ℕ) : Type 0 where
@@ -122,4 +125,4 @@ module _ (c : Call) (s : Session) (d : Sized s) (sheet : List ℕ) (engine : ℕ
           answers-accepted n =
               answers_by 0 t left
               (rw (p.offers ∙ pick-false _ _ _ n, alike-offers (view t) (step c (view s)) ys same_step.held same_step.selected, q)
-              (result-accepted (sym (number-offers g c (view s) long z v (first_next _ _ _ (sym wipes ∙ n) first-end)))))
+              (result-accepted (sym (number-offers g c (view s) long z v (first_next _ _ _ (sym wipes ∙ n) first_end)))))

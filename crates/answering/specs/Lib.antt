@@ -4,5 +4,3 @@ pub mod Intake
 pub mod Settle
 pub mod TakesStep
 pub mod Answering
-pub mod PublicAnswer
-pub mod PublicShows

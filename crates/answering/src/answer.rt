@@ -1,15 +1,24 @@
 // The answer to any call.
+ghost use Rattle.std.specs.Prelude.{◌≡◌};
 ghost use Rattle.answering.specs.Answer.{spaces, Answers};
+ghost use Rattle.answering.specs.Answering.{short_by};
 
 use super::drafts::settle_sheet;
 use super::intake::take_in;
 use judging::judge::judge;
-use judging::spaces::too_short;
 use ledger::Call;
 use limits::refusals::{TOO_SHORT, WIPED_OUT};
+use limits::{MEMORY_WORDS, OFFERS_WORDS, ROWS_WORDS};
 use network::build::build;
 use session::steps::step;
 use session::{Outcome, Session};
+
+// 6: the offers list or a work space is too short.
+fn too_short(offers: usize, rows: usize, memory: usize) -> bool
+    ensures { result ≡ short_by offers rows memory }
+{
+    (offers < OFFERS_WORDS) | ((rows < ROWS_WORDS) | (memory < MEMORY_WORDS))
+}
 
 // The causes are tried in this order: 6; 1 to 5; 15, at open 18; 7 and 9 to 13; 14. Nothing that the caller keeps changes before the last.
 pub fn answer(

@@ -1,17 +1,14 @@
 -- What the callees of the outer functions return, and what the outer functions say.
 use mathlib.Core.Path.{refl}
 use Prim.Native.Nat.{ℕ}
-use lib.ListN.{length}
 use denote.Struct.Field.{u32-field}
 use denote.Struct.Laws.{u32-laws, u32-plain}
 use Rattle.ledger.specs.declared.Call.{Call}
 use Rattle.ledger.specs.Ledger.{decides}
-use Rattle.ledger.specs.PublicCalls.{PublicCall}
 use Rattle.session.specs.declared.Outcome.{Outcome}
 use Rattle.session.specs.contracts.Outcome as O
 use Rattle.answering.specs.Answer.{spaces, Answers}
-use Rattle.answering.specs.PublicAnswer.{PublicAnswers}
-use Rattle.belaykeel.specs.Parameters.{plain, opening, deciding, list_call}
+use Rattle.belaykeel.specs.Parameters.{plain, opening, deciding}
 use Rattle.belaykeel.proofs.Outcome.{Returned}
 use Rattle.belaykeel.proofs.Outer.{Says}
 
@@ -42,9 +39,3 @@ opened session sheet engine order selected offers rows memory k session' offers'
 abbrev pub decided : ℕ → Says numbered deciding
 decided kind session sheet engine order field position offers rows memory k session' offers' rows' memory' =
     Answers (decides kind field position) session sheet engine order (spaces offers rows memory) k session' (spaces offers' rows' memory')
-
--- the list call
-abbrev pub in_turn : Says numbered list_call
-in_turn session sheet engine order bytes numbers offers rows memory k session' numbers' offers' rows' memory' =
-    PublicAnswers (PublicCall.list bytes (length numbers)) session sheet engine order (spaces offers rows memory) numbers k session'
-    (spaces offers' rows' memory') numbers'

@@ -5,7 +5,6 @@
 --     entering, leaving    such a taker at them
 --     plain                the parameters of a call that takes no more than every call does
 --     opening, deciding    those of open, which takes the mask of the selected fields, and of a call that takes a field and a position
---     list_call             those of the list call
 use Rattle.std.specs.Prelude.{List, [], ◌∷◌, ℕ}
 use Rattle.std.specs.Int.{Width, w8, w32}
 use Rattle.std.specs.Borrow.{Bor}
@@ -54,7 +53,3 @@ opening = shared w8 ∷ number w32 ∷ shared w8 ∷ number w32 ∷ lent w32 ∷
 -- sheet, engine, order, field, position, offers, rows, memory
 abbrev pub deciding : List Kind
 deciding = shared w8 ∷ number w32 ∷ shared w8 ∷ number w32 ∷ number w32 ∷ lent w32 ∷ lent w32 ∷ lent w32 ∷ []
-
--- sheet, engine, order, list, numbers, offers, rows, memory
-abbrev pub list_call : List Kind
-list_call = shared w8 ∷ number w32 ∷ shared w8 ∷ shared w8 ∷ lent w32 ∷ lent w32 ∷ lent w32 ∷ lent w32 ∷ []

@@ -1,12 +1,9 @@
 // Belaykeel for C and Rust: each call with the session by `&mut`. What a call answers is said in the crate `answering`. A slice is a
 // pointer and a length; a caller in C answers for it that the pointer is valid for that length and that what is written overlaps nothing
 // else that is lent.
-ghost use Rattle.std.specs.Prelude.{length};
 ghost use Rattle.ledger.specs.declared.Call.{Call};
 ghost use Rattle.ledger.specs.Ledger.{CHOOSE, STRIKE, WITHDRAW_CHOICE, WITHDRAW_STRIKE, decides};
-ghost use Rattle.ledger.specs.PublicCalls.{PublicCall};
 ghost use Rattle.answering.specs.Answer.{spaces, Answers};
-ghost use Rattle.answering.specs.PublicAnswer.{PublicAnswers};
 ghost use Rattle.sheet.specs.Sources.{Gives, reading, writing};
 
 use session::Session;
@@ -181,31 +178,6 @@ pub extern "C" fn belaykeel_coil_on(
         result session.new (spaces offers.new rows.new memory.new) }
 {
     let out = calls::coil_on(*session, sheet, engine, order, offers, rows, memory);
-    *session = out.session;
-    out.number
-}
-
-// The decisions of a list, three bytes each: code, field and position. Each entry's number goes to its place of the number list.
-#[unsafe(no_mangle)]
-pub extern "C" fn belaykeel_list(
-    session: &mut Session,
-    sheet: &[u8],
-    engine: u32,
-    order: &[u8],
-    list: &[u8],
-    numbers: &mut [u32],
-    offers: &mut [u32],
-    rows: &mut [u32],
-    memory: &mut [u32],
-) -> u32
-    ensures { PublicAnswers (PublicCall.list list.now (length numbers.old)) session.old
-        sheet.now engine order.now
-        (spaces offers.old rows.old memory.old) numbers.old
-        result session.new (spaces offers.new rows.new memory.new) numbers.new }
-{
-    let out = in_turn::list::list(
-        *session, sheet, engine, order, list, numbers, offers, rows, memory,
-    );
     *session = out.session;
     out.number
 }

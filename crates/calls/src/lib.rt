@@ -1,4 +1,4 @@
-// The single calls, the session by value. Each is given the sheet's bytes, an engine, an order of the fields, if it is open the mask of the
+// The calls, the session by value. Each is given the sheet's bytes, an engine, an order of the fields, if it is open the mask of the
 // selected fields, the decision that it is about if it is about one, and the spaces that it is lent.
 ghost use Rattle.std.specs.Prelude.{◌≡◌};
 ghost use Rattle.ledger.specs.declared.Call.TheVariants.{Open, Show, Back, CoilOn};

@@ -26,8 +26,8 @@ module _ (P : Problem) (order hood : List ℕ) (selected : ℕ) (S0 : List ℕ) 
   pub passing-start : Live P S0 → Passing 0 0 S0
   passing-start l = record { kept = kept-start P hood selected S0 l; past = λ z q i. absurd (omega arith) }
 
-  pub passing-end : (p touched : ℕ) (S : List ℕ) → IsOrder P.fields order → P.fields ≤ p → Passing p touched S → Passed false touched S
-  passing-end p touched S o h g = record {
+  pub passing_end : (p touched : ℕ) (S : List ℕ) → IsOrder P.fields order → P.fields ≤ p → Passing p touched S → Passed false touched S
+  passing_end p touched S o h g = record {
     sized = g.kept.shrunk.sized;
     kept = λ _. g.kept;
     done = λ _ z f l. let x = o.every f l.0 in

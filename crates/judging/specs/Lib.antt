@@ -1,3 +1,2 @@
--- What the contracts and proofs of `judging` cite.
+-- What the proofs of `judging` cite.
 pub mod Changes
-pub mod Spaces

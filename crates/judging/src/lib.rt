@@ -1,5 +1,4 @@
-// Whether a call may be made: the causes 6, 15 or 18, 7 and 9 to 13 of a refusal, stage by stage.
-pub mod spaces; // spaces.rt: whether the lent spaces are too short
+// Whether a call may be made: the causes 15 or 18, 7 and 9 to 13 of a refusal, stage by stage.
 pub mod order; // order.rt: whether a list is an order of the fields
 pub mod stages; // stages.rt: the first cause of each stage
 pub mod judge; // judge.rt: the first cause of all

@@ -8,9 +8,9 @@ use Rattle.ledger.specs.Ledger.{Cause, because, first}
 
 -- ---- one list
 
-pub first-end : 0 ≡ first []
+pub first_end : 0 ≡ first []
 unfolding first
-first-end = refl
+first_end = refl
 
 pub first-applies : (t : Bool) (k : ℕ) (cs : List Cause) → t ≡ true → k ≡ first (because t k ∷ cs)
 unfolding first

@@ -15,7 +15,7 @@ use Rattle.ledger.specs.declared.Call.TheVariants.{Open, Show, Decide, Back, Coi
 use Rattle.ledger.specs.Ledger.{Ledger, Given, Cause, first, step, space_short, space_causes, sheet_causes, all_on_sheet}
 use Rattle.ledger.specs.Ledger.{no_selection, reversible, malformed, is_order, session_causes, engine_causes, place_causes, order_causes}
 use Rattle.ledger.specs.Ledger.{step_causes, offers_causes, judged, causes, number}
-use Rattle.ledger.specs.Causes.{None, Avoids, Numbered, avoids_++, first-end, first-applies, first_next, first-none, first-here}
+use Rattle.ledger.specs.Causes.{None, Avoids, Numbered, avoids_++, first_end, first-applies, first_next, first-none, first-here}
 use Rattle.ledger.specs.Causes.{first-there, first-both, first_avoids}
 
 pub or_left : (a b : Bool) → (a || b) ≡ false → a ≡ false
@@ -210,7 +210,7 @@ module _ (g : Given) (c : Call) (l : Ledger) where
   module _ (s : space_short g ≡ false) where
     after-space : {k : ℕ} → k ≡ first (sheet_causes g.sheet ++ (early ++ offers_causes xs (step c l))) → k ≡ number g c l
     unfolding number causes
-    after-space e = first-there (space_causes g) _ space-numbered (sym (first_next _ _ _ s first-end)) e
+    after-space e = first-there (space_causes g) _ space-numbered (sym (first_next _ _ _ s first_end)) e
 
     -- 1 to 5
     pub number-sheet : (k : ℕ) → (k ≡ 0 → ⊥) → k ≡ refusal (of_bytes g.sheet) → k ≡ number g c l
@@ -220,7 +220,7 @@ module _ (g : Given) (c : Call) (l : Ledger) where
     module _ (r : refusal (of_bytes g.sheet) ≡ 0) where
       after-sheet : {k : ℕ} → k ≡ first (early ++ offers_causes xs (step c l)) → k ≡ number g c l
       after-sheet e = after-space (first-there (sheet_causes g.sheet) _ sheet-numbered
-          (sym (first_next _ _ _ (ap not (eq-eqb (refusal (of_bytes g.sheet)) 0 r)) first-end)) e)
+          (sym (first_next _ _ _ (ap not (eq-eqb (refusal (of_bytes g.sheet)) 0 r)) first_end)) e)
 
       -- 15 or 18, 7 and 9 to 13
       pub number-judged : (k : ℕ) → (k ≡ 0 → ⊥) → k ≡ first early → k ≡ number g c l

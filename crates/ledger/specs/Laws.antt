@@ -1,6 +1,6 @@
 -- Laws of the ledger: of decisions as a set, and that nothing depends on more than which decisions are in force, on the events and on the
 -- selected fields. Assumes nothing.
-use Rattle.std.specs.Prelude.{◌≡◌, Bool, true, ◌&&◌, ◌||◌, ℕ, eqb, length}
+use Rattle.std.specs.Prelude.{◌≡◌, Bool, true, ◌&&◌, ◌||◌, ℕ, eqb}
 use Rattle.std.proofs.Math.Path.{refl, ap, ap₂, fun_ext}
 use Rattle.std.proofs.Common.{sym, ◌∙◌, eqb-true, eq-eqb, ne_eqb}
 use Rattle.std.proofs.Math.Logic.{⊎_elim}
@@ -10,11 +10,11 @@ use Rattle.masks.specs.Tests.{never, bool_cases, iff_eq, and_l, and_r, and-by, o
 use Rattle.masks.specs.Masks.{keep_bits, some_bit}
 use Rattle.masks.specs.Pick.{pick, pick_true, pick-false}
 use Rattle.consistency.specs.Neighbourhood.{neighbourhood}
-use Rattle.consistency.specs.Offers.{offers, offers-is, wiped_out}
+use Rattle.consistency.specs.Offers.{offers, wiped_out}
 use Rattle.sheet.specs.Sources.{numbers, of_bytes}
 use Rattle.accepted.specs.declared.outline.Outline.{Outline}
-use Rattle.accepted.specs.Lists.{tabulate, length-tabulate}
-use Rattle.accepted.specs.Parts.{fields_of, reach_of}
+use Rattle.accepted.specs.Lists.{tabulate}
+use Rattle.accepted.specs.Parts.{reach_of}
 use Rattle.accepted.specs.Outline.{outline_of}
 use Rattle.network.specs.SheetProblem.{sheet_problem}
 use Rattle.ledger.specs.declared.Event.{Event}
@@ -22,7 +22,7 @@ use Rattle.ledger.specs.declared.Call.{Call}
 use Rattle.ledger.specs.declared.Call.TheVariants.{Open, Show, Decide, Back, CoilOn}
 use Rattle.ledger.specs.Ledger.{Decision, choice, strike, Change, adds, withdraws, neither, change_of, Ledger, same_decision, in_force}
 use Rattle.ledger.specs.Ledger.{with, without, applied, reverted, backed, step, settings, other_chosen, starts, start_set, offers_of}
-use Rattle.ledger.specs.Ledger.{first, wiped, Given, on_sheet, all_on_sheet, revertible, reversible, malformed, session_causes}
+use Rattle.ledger.specs.Ledger.{wiped, Given, on_sheet, all_on_sheet, revertible, reversible, malformed, session_causes}
 use Rattle.ledger.specs.Ledger.{added_again, withdrawn_unheld, step_causes, judged, causes, number, after}
 
 -- ---- the ledger after a call: its step where it is accepted, and as it was where it is refused
@@ -96,13 +96,6 @@ module _ (o : Outline) where
   all_on_by [] h = refl
   all_on_by (e ∷ ds) h = and-by _ _ (h e (or_l _ _ (decision-self e))) (all_on_by ds (λ d q. h d (or_r (same_decision e d) _ q)))
 
--- a mask for each field
-pub length-offers : (xs : List ℕ) (l : Ledger) → length (offers_of xs l) ≡ fields_of xs
-unfolding offers_of start_set outline_of
-length-offers xs l =
-    (offers-is (sheet_problem xs) (neighbourhood (sheet_problem xs) (reach_of xs)) l.selected (start_set (outline_of xs) l.decisions)).sized
-    ∙ length-tabulate (fields_of xs) _
-
 -- ---- the same decisions in force
 
 abbrev pub Alike : List Decision → List Decision → Type 0
@@ -167,8 +160,8 @@ pub record SameLedger (l m : Ledger) : Type 0 where
   pub past : l.events ≡ m.events
   pub selected : l.selected ≡ m.selected
 
-pub same-ledger : (l : Ledger) → SameLedger l l
-same-ledger l = record { held = λ d. refl; past = refl; selected = refl }
+pub same_ledger : (l : Ledger) → SameLedger l l
+same_ledger l = record { held = λ d. refl; past = refl; selected = refl }
 
 pub same_then : {l m n : Ledger} → SameLedger l m → SameLedger m n → SameLedger l n
 same_then s t = record { held = λ d. s.held d ∙ t.held d; past = s.past ∙ t.past; selected = s.selected ∙ t.selected }
@@ -229,17 +222,13 @@ judged-same : (o : Outline) (c : Call) (engine : ℕ) (order : List ℕ) (l m : 
 unfolding judged
 judged-same o c engine order l m s = rw (session-same o c l m s, step-causes-same c l m s)
 
--- The causes of a call are the same, so is its number, and so is the ledger after it.
-pub causes-same : (g : Given) (c : Call) (l m : Ledger) → SameLedger l m → causes g c l ≡ causes g c m
-unfolding causes
-causes-same g c l m s =
+-- The number of a call is the same, and so is the ledger after it.
+pub number_same : (g : Given) (c : Call) (l m : Ledger) → SameLedger l m → number g c l ≡ number g c m
+unfolding number causes
+number_same g c l m s =
     let xs = numbers (of_bytes g.sheet) in
     let t = step_same c l m s in
     rw (judged-same (outline_of xs) c g.engine g.order l m s, alike-wiped (step c l) (step c m) xs t.held t.selected)
-
-pub number_same : (g : Given) (c : Call) (l m : Ledger) → SameLedger l m → number g c l ≡ number g c m
-unfolding number
-number_same g c l m s = ap first (causes-same g c l m s)
 
 pub after_same : (g : Given) (c : Call) (l m : Ledger) → SameLedger l m → SameLedger (after g c l) (after g c m)
 unfolding after

@@ -11,9 +11,3 @@ pub mod Orders
 pub mod Sound
 pub mod Selection
 pub mod Theorems
-pub mod InTurn
-pub mod PublicCalls
-pub mod CallCases
-pub mod InTurnLaws
-pub mod PublicLaws
-pub mod ListLaws

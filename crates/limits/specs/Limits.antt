@@ -48,10 +48,6 @@ most_numbers = 8184
 abbrev pub most_events : ℕ
 most_events = 64
 
--- the entries of a list (02, request 1)
-abbrev pub most_entries : ℕ
-most_entries = 64
-
 -- the least words of the offers list and of the two work spaces
 abbrev pub offers_words : ℕ
 offers_words = 24

@@ -21,11 +21,11 @@ OUT_OF_ORDER = 4
 abbrev pub SURPLUS : ℕ
 SURPLUS = 5
 
--- the offers list, a work space, the number list of a list call or the output is too short
+-- the offers list, a work space or the output is too short
 abbrev pub TOO_SHORT : ℕ
 TOO_SHORT = 6
 
--- the engine is not 1 to 3, the field or position is not on the sheet, or an entry's code is not 1 to 4 (02, request 1)
+-- the engine is not 1 to 3, or the field or position is not on the sheet
 abbrev pub UNKNOWN : ℕ
 UNKNOWN = 7
 
@@ -60,10 +60,6 @@ WIPED_OUT = 14
 -- the session is malformed
 abbrev pub MALFORMED : ℕ
 MALFORMED = 15
-
--- the length of a list is no multiple of three, or it has over 64 entries (02, request 1)
-abbrev pub NOT_ENTRIES : ℕ
-NOT_ENTRIES = 16
 
 -- the mask of selected fields that open is given is empty or names a field beyond the sheet (02, request 7)
 abbrev pub NO_SELECTION : ℕ

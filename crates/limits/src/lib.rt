@@ -39,9 +39,6 @@ pub const MOST_EVENTS: u32 = 64;
 
 pub const EVENTS: usize = MOST_EVENTS as usize;
 
-// The most entries of a list.
-pub const MOST_ENTRIES: usize = 64;
-
 // The least words of the offers list and of the two work spaces.
 pub const OFFERS_WORDS: usize = 24;
 

@@ -27,8 +27,6 @@ pub const WIPED_OUT: u32 = 14;
 
 pub const MALFORMED: u32 = 15;
 
-pub const NOT_ENTRIES: u32 = 16;
-
 pub const NO_SELECTION: u32 = 18;
 
 pub const RETIRED: u32 = 20;

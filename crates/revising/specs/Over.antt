@@ -182,8 +182,8 @@ module _ (n : ℕ) (joined forward turned T : List ℕ) (wired : Wired n joined 
             narrowed_then P W S D1 L1 t1 C1 on-fields few-fields changed spent D L t C (rules false changed spent D L t C p)
 
         -- none waits
-        pub first-end : some ≡ 0 → Pruned (problem_of n joined forward turned T) W S D1 L1 t1 C1 false changed spent D L t C
-        first-end z =
+        pub first_end : some ≡ 0 → Pruned (problem_of n joined forward turned T) W S D1 L1 t1 C1 false changed spent D L t C
+        first_end z =
             rw (sym (or_zero_r changed), sym (or_zero_r spent))
             (narrow-then false 0 0 D L t C (narrowing_end P W S D L t C on-fields few-fields some 0 0 D L t C
             (narrowing_start P W S D L t C on-fields few-fields some first-emptied first_waiting) z))

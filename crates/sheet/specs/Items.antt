@@ -7,10 +7,10 @@ use Rattle.groups.specs.declared.groups.Number.{Number}
 use Rattle.groups.specs.declared.groups.Number.TheVariants.{Value, Ended, IllFormed}
 use Rattle.sheet.specs.Sources.{Item, num, cut, ill, items_by, items, items_from}
 
-items-end : (most : ℕ) (s : List ℕ) (at : ℕ) → length s ≤ at → items most s at ≡ []
+items_end : (most : ℕ) (s : List ℕ) (at : ℕ) → length s ≤ at → items most s at ≡ []
 unfolding items
-items-end zero s at h = refl
-items-end (suc most) s at h = pick-false _ _ _ (le-ltb at (length s) h)
+items_end zero s at h = refl
+items_end (suc most) s at h = pick-false _ _ _ (le-ltb at (length s) h)
 
 items_at : (most : ℕ) (s : List ℕ) (at : ℕ) → 0 < most → at < length s → items most s at ≡ items_by (number_at s at) (items (most - 1) s)
 unfolding items
@@ -19,7 +19,7 @@ items_at (suc most) s at p h = rw sub-one (pick_true _ _ _ (lt-ltb at (length s)
 
 -- any bound that is enough serves
 items-enough : (f g : ℕ) (s : List ℕ) (at : ℕ) → length s - at ≤ f → length s - at ≤ g → items f s at ≡ items g s at
-items-enough zero g s at p q = items-end zero s at (omega arith) ∙ sym (items-end g s at (omega arith))
+items-enough zero g s at p q = items_end zero s at (omega arith) ∙ sym (items_end g s at (omega arith))
 items-enough (suc f) g s at p q = go (λ next. items-enough f (g - 1) s next) (ltb at (length s)) refl
   where
     by : (r : Number) → at < length s → number_at s at ≡ r
@@ -37,11 +37,11 @@ items-enough (suc f) g s at p q = go (λ next. items-enough f (g - 1) s next) (l
         items_at (suc f) s at (omega arith) h
         ∙ rw sub-one (by (number_at s at) h refl ih)
         ∙ sym (items_at g s at (omega arith) h)
-    go ih false e = let h = ltb-false at (length s) e in items-end (suc f) s at h ∙ sym (items-end g s at h)
+    go ih false e = let h = ltb-false at (length s) e in items_end (suc f) s at h ∙ sym (items_end g s at h)
 
 module _ (s : List ℕ) (at : ℕ) where
   pub from_end : length s ≤ at → items_from s at ≡ []
-  from_end h = items-end _ s at h
+  from_end h = items_end _ s at h
 
   pub from-num : (x next : ℕ) → at < length s → number_at s at ≡ Value x next → items_from s at ≡ num x ∷ items_from s next
   from-num x next h e =

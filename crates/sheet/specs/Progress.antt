@@ -84,19 +84,19 @@ numbers-none = (refl, refl, refl)
 
 -- ---- a list's numbers from place k on
 
-pub list-next : (xs : List ℕ) (k : ℕ) → k < length xs → drop k xs ≡ get_or xs k 0 ∷ drop (k + 1) xs
-list-next xs k h = drop-cons xs k 0 h ∙ ap (λ (i : ℕ). get_or xs k 0 ∷ drop i xs) (sym (add-one k))
+pub list_next : (xs : List ℕ) (k : ℕ) → k < length xs → drop k xs ≡ get_or xs k 0 ∷ drop (k + 1) xs
+list_next xs k h = drop-cons xs k 0 h ∙ ap (λ (i : ℕ). get_or xs k 0 ∷ drop i xs) (sym (add-one k))
 
 pub items-next : (xs : List ℕ) (k : ℕ) → k < length xs → of_numbers (drop k xs) ≡ num (get_or xs k 0) ∷ of_numbers (drop (k + 1) xs)
-items-next xs k h = ap of_numbers (list-next xs k h)
+items-next xs k h = ap of_numbers (list_next xs k h)
 
 pub bytes_next : (xs : List ℕ) (k : ℕ) → k < length xs → bytes_of (drop k xs) ≡ encode (get_or xs k 0) ++ bytes_of (drop (k + 1) xs)
 unfolding bytes_of
-bytes_next xs k h = ap bytes_of (list-next xs k h)
+bytes_next xs k h = ap bytes_of (list_next xs k h)
 
-pub bytes-end : (xs : List ℕ) (k : ℕ) → length xs ≤ k → bytes_of (drop k xs) ≡ []
+pub bytes_end : (xs : List ℕ) (k : ℕ) → length xs ≤ k → bytes_of (drop k xs) ≡ []
 unfolding bytes_of
-bytes-end xs k h = ap bytes_of (drop_of_length-le xs h)
+bytes_end xs k h = ap bytes_of (drop_of_length-le xs h)
 
 -- ---- a call that checks a source, then the room, and then writes the values; a is what the check answers
 

@@ -13,7 +13,7 @@ use Rattle.grammar.specs.declared.grammar.Expected.{Expected}
 use Rattle.grammar.specs.declared.grammar.State.{State}
 use Rattle.grammar.specs.declared.grammar.State.TheVariants.{Wants, Complete, OutOfRange, OutOfOrder}
 use Rattle.sheet.specs.Sources.{meets, of_numbers, bytes_of, is_retired, retired_from, retired, answered, checked, checked_list}
-use Rattle.sheet.specs.Progress.{Going, going_on, going_end, going-stays, list-next, items-next, bytes_next, bytes-end}
+use Rattle.sheet.specs.Progress.{Going, going_on, going_end, going-stays, list_next, items-next, bytes_next, bytes_end}
 use Rattle.sheet.specs.declared.answer.Answer.{Answer}
 
 -- ---- one number
@@ -60,7 +60,7 @@ module _ {st : State} {ds xs : List ℕ} {k count : ℕ} where
         (items-next xs k h) (bytes_next xs k h) g.going;
     meets-retired =
         sym (retired-on n e ds (get_or xs k 0) (drop (k + 1) xs) q)
-        ∙ sym (ap₂ (λ (s : State) (l : List ℕ). retired_from s ds l) p (list-next xs k h)) ∙ g.meets-retired;
+        ∙ sym (ap₂ (λ (s : State) (l : List ℕ). retired_from s ds l) p (list_next xs k h)) ∙ g.meets-retired;
   }
 
   -- the retired kind
@@ -69,7 +69,7 @@ module _ {st : State} {ds xs : List ℕ} {k count : ℕ} where
   unfolding pick
   passing-retired n e p h q g =
       let z : retired xs ≡ true =
-      sym g.meets-retired ∙ ap₂ (λ (s : State) (l : List ℕ). retired_from s ds l) p (list-next xs k h)
+      sym g.meets-retired ∙ ap₂ (λ (s : State) (l : List ℕ). retired_from s ds l) p (list_next xs k h)
       ∙ retired-met n e ds (get_or xs k 0) (drop (k + 1) xs) q in
       sym (ap (λ (i : ℕ). answered i (length (bytes_of xs))) (pick_true (retired xs) RETIRED _ z))
 
@@ -81,7 +81,7 @@ module _ {st : State} {ds xs : List ℕ} {k count : ℕ} where
       (going-stays i p (λ f. ap (λ (t : State). meets t f) s ∙ e f) (omega (arith, ap length (items-next xs k h))) g.going)
 
   -- the end
-  pub passing-end : length xs ≤ k → Passing st ds xs k count → answered (at_end st) count ≡ checked_list xs
-  passing-end h g =
+  pub passing_end : length xs ≤ k → Passing st ds xs k count → answered (at_end st) count ≡ checked_list xs
+  passing_end h g =
       unretired xs (sym g.meets-retired ∙ ap (retired_from st ds) (drop_of_length-le xs h) ∙ retired-none st ds)
-      (going_end (ap of_numbers (drop_of_length-le xs h)) (bytes-end xs k h) g.going)
+      (going_end (ap of_numbers (drop_of_length-le xs h)) (bytes_end xs k h) g.going)

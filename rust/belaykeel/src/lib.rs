@@ -51,8 +51,6 @@
 //! # }
 //! ```
 //!
-//! Decisions can be sent as a list ([`Session::apply`]): an entry that is refused is passed over, and the rest go on.
-//!
 //! The calls on plain slices, where a space can be too short and an order wrong, are in [`raw`].
 
 #![deny(unsafe_code)]
@@ -69,5 +67,5 @@ mod sheet;
 pub use method::{Engine, Order, Selection, WorkSpaces};
 pub use offers::Offers;
 pub use refusal::Refusal;
-pub use session::{Applied, Event, Session, ENTRIES, EVENTS};
+pub use session::{Event, Session, EVENTS};
 pub use sheet::Sheet;

@@ -2,9 +2,8 @@
 //! call answers with its number. A call that gives offers needs about 163,000 bytes of stack; 196,608 bytes are enough.
 //!
 //! `sheet` has the sheet's bytes, `engine` is the engine's number, and `order` has every field of the sheet just once. An accepted call
-//! writes the n masks of the offers to the front of `offers`; a list call writes those after its latest accepted entry, if there is one, and
-//! each entry's number to its place of `numbers`. `rows` and `memory` are the work spaces: what they hold before a call affects no answer;
-//! afterwards they may hold anything, and are as they were where 6 refuses.
+//! writes the n masks of the offers to the front of `offers`. `rows` and `memory` are the work spaces: what they hold before a call affects
+//! no answer; afterwards they may hold anything, and are as they were where 6 refuses.
 //!
 //! The only file with unsafe code. Every function is safe: the library takes any slices, and those lent here cannot overlap.
 

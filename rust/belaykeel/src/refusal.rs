@@ -5,8 +5,8 @@ use std::fmt;
 /// Defines the refusals from a table of numbers, names and sentences.
 macro_rules! refusals {
     ($($number:literal $name:ident $sentence:literal)*) => {
-        /// The cause of a refusal, by its number in README.md. A refused call leaves session, offers, number list and output as they were,
-        /// and one refused by 6 the work spaces too.
+        /// The cause of a refusal, by its number in README.md. A refused call leaves session, offers and output as they were, and one
+        /// refused by 6 the work spaces too.
         #[derive(Clone, Copy, Debug, PartialEq, Eq, Hash)]
         #[repr(u32)]
         pub enum Refusal {
@@ -15,7 +15,7 @@ macro_rules! refusals {
 
         impl Refusal {
             /// Every refusal, by rising number.
-            pub const ALL: [Refusal; 18] = [$(Refusal::$name,)*];
+            pub const ALL: [Refusal; 17] = [$(Refusal::$name,)*];
 
             fn sentence(self) -> &'static str {
                 match self {
@@ -32,8 +32,8 @@ refusals! {
     3 OutOfRange "A number of the sheet is outside its range."
     4 OutOfOrder "Settings, rules or triples do not rise, or the fields of a rule or triple do not."
     5 Surplus "Bytes or numbers follow the sheet's end."
-    6 TooShort "The offers list, a work space, the number list or the output is too short."
-    7 Unknown "The engine is not 1 to 3, the field or position is not on the sheet, or an entry's code is not 1 to 4."
+    6 TooShort "The offers list, a work space or the output is too short."
+    7 Unknown "The engine is not 1 to 3, or the field or position is not on the sheet."
     8 TooNarrow "Never given: engine 2 runs at every reach."
     9 NoOrder "The order does not hold every field just one time."
     10 AddedAgain "The decision to add is in force."
@@ -42,13 +42,12 @@ refusals! {
     13 NothingPast "Back, and there is no event."
     14 WipedOut "Under the decisions that would hold after the call a field has no offer."
     15 Malformed "The session is malformed."
-    16 NotEntries "The length of the list is no multiple of three, or it has over 64 entries."
     18 NoSelection "The mask of selected fields is empty or names a field beyond the sheet."
     20 Retired "The writer met a rule of kind 2, which is read but no longer written."
 }
 
 impl Refusal {
-    /// The number of the refusal, 1 to 16, 18 or 20.
+    /// The number of the refusal, 1 to 15, 18 or 20.
     pub fn number(self) -> u32 {
         self as u32
     }

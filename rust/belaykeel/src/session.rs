@@ -9,10 +9,8 @@ use core::mem::offset_of;
 
 /// The most events that a session holds.
 pub const EVENTS: usize = 64;
-/// The most entries of a list of decisions.
-pub const ENTRIES: usize = 64;
 
-/// A past event, or an entry of a list of decisions: kind 1 choice added, 2 strike added, 3 choice withdrawn, 4 strike withdrawn.
+/// A past event: kind 1 choice added, 2 strike added, 3 choice withdrawn, 4 strike withdrawn.
 #[repr(C)]
 #[derive(Clone, Copy, Debug, Default, PartialEq, Eq)]
 pub struct Event {
@@ -22,42 +20,6 @@ pub struct Event {
     pub field: u32,
     /// The position of the decision.
     pub position: u32,
-}
-
-impl Event {
-    /// A choice of a setting.
-    pub fn choose(field: u32, position: u32) -> Event {
-        Event { kind: 1, field, position }
-    }
-
-    /// A strike of a setting.
-    pub fn strike(field: u32, position: u32) -> Event {
-        Event { kind: 2, field, position }
-    }
-
-    /// The withdrawal of a choice.
-    pub fn withdraw_choice(field: u32, position: u32) -> Event {
-        Event { kind: 3, field, position }
-    }
-
-    /// The withdrawal of a strike.
-    pub fn withdraw_strike(field: u32, position: u32) -> Event {
-        Event { kind: 4, field, position }
-    }
-
-    /// The three bytes of an entry. A number above 255 becomes 255, which is no kind, and no field or position of any sheet either.
-    fn bytes(self) -> [u8; 3] {
-        [self.kind, self.field, self.position].map(|number| u8::try_from(number).unwrap_or(u8::MAX))
-    }
-}
-
-/// What a list of decisions did.
-#[derive(Clone, Debug, PartialEq, Eq)]
-pub struct Applied {
-    /// For each entry nothing, or why it was refused and passed over.
-    pub entries: Vec<Result<(), Refusal>>,
-    /// The offers after the latest entry that was accepted; nothing where none was.
-    pub offers: Option<Offers>,
 }
 
 /// The control room's session: the decisions in force, up to 64 events and their count, the mask of selected fields, and no offers.
@@ -185,43 +147,6 @@ impl Session {
     method! {
         /// Drops all events; decisions remain.
         coil_on()
-    }
-
-    /// Makes decisions that are sent as a list, at most 64, in turn: the list call. Session, offers and refusals are those of the single
-    /// calls; an entry that is refused is passed over, and the rest go on. The sheet is read once. What is wrong with sheet, session, order
-    /// or the length of the list refuses the whole.
-    ///
-    /// ```
-    /// use belaykeel::{Engine, Event, Order, Refusal, Selection, Session, Sheet, WorkSpaces};
-    /// # fn main() -> Result<(), Refusal> {
-    /// let sheet = Sheet::write(&[2, 3, 100, 200, 300, 3, 100, 200, 300, 24, 1, 0, 1, 1, 100])?;
-    /// let (engine, order, mut spaces) = (Engine::Sac1, Order::Rising, WorkSpaces::new());
-    /// let mut session = Session::default();
-    /// session.open(&sheet, engine, &order, &Selection::All, &mut spaces)?;
-    ///
-    /// let list = [Event::strike(0, 2), Event::choose(1, 1), Event::choose(1, 0)];
-    /// let applied = session.apply(&sheet, engine, &order, &list, &mut spaces)?;
-    /// assert_eq!(applied.entries, [Ok(()), Err(Refusal::WipedOut), Ok(())]);
-    /// assert_eq!(applied.offers.expect("two were accepted").masks(), [2, 1]);
-    /// # Ok(())
-    /// # }
-    /// ```
-    pub fn apply(
-        &mut self,
-        sheet: &Sheet,
-        engine: Engine,
-        order: &Order,
-        list: &[Event],
-        spaces: &mut WorkSpaces,
-    ) -> Result<Applied, Refusal> {
-        let list: Vec<u8> = list.iter().copied().flat_map(Event::bytes).collect();
-        let mut numbers = vec![0; list.len() / 3];
-        let (mut offers, WorkSpaces { rows, memory }) = ([0; OFFERS_WORDS], spaces);
-        let (bytes, engine, order) = (sheet.as_bytes(), engine.number(), order.bytes(sheet));
-        Refusal::check(raw::list(self, bytes, engine, order, &list, &mut numbers, &mut offers, rows, memory))?;
-        let entries: Vec<Result<(), Refusal>> = numbers.into_iter().map(Refusal::check).collect();
-        let offers = entries.contains(&Ok(())).then(|| Offers::new(offers, sheet.fields()));
-        Ok(Applied { entries, offers })
     }
 
     /// The events that have happened, oldest first; at most 64.

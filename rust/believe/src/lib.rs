@@ -13,8 +13,8 @@ use list::entries;
 use reach::Reach;
 use std::path::{Path, PathBuf};
 
-/// The directories and files below `crates/` whose public functions have contracts for a caller.
-const CONTRACTS: &[&str] = &["belaykeel/src/", "calls/src/", "in_turn/src/list.rt", "printing/src/"];
+/// The directories below `crates/` whose public functions have contracts for a caller.
+const CONTRACTS: &[&str] = &["belaykeel/src/", "calls/src/", "printing/src/"];
 
 /// What it is that a call goes as the ledger says, and when a setting is not tested again.
 const PROMISES: &[(&str, &str)] = &[("theorem/specs/Follows.antt", "Agrees"), ("visiting/specs/Store.antt", "Checked")];
@@ -26,12 +26,10 @@ const STATEMENTS: &[(&str, &str)] = &[
     ("theorem/proofs/No8.antt", "no-8"),
     ("theorem/proofs/Inner.antt", "answered every-call"),
     ("theorem/proofs/Inner.antt", "open-free show-free choose-free strike-free withdraw-choice-free withdraw-strike-free"),
-    ("theorem/proofs/Inner.antt", "back-free coil-on-free list-free later-calls"),
-    ("theorem/proofs/Outer.antt", "answered every-call later-calls"),
+    ("theorem/proofs/Inner.antt", "back-free coil-on-free"),
+    ("theorem/proofs/Outer.antt", "answered every-call"),
     ("theorem/proofs/Outer.antt", "open-public show-public choose-public strike-public withdraw-choice-public"),
-    ("theorem/proofs/Outer.antt", "withdraw-strike-public back-public coil-on-public list-public"),
-    ("theorem/specs/CallAgrees.antt", "shown untouched kept list-shown"),
-    ("theorem/specs/ListIsSingles.antt", "list-is-singles entry-is"),
+    ("theorem/proofs/Outer.antt", "withdraw-strike-public back-public coil-on-public"),
     ("theorem/proofs/RoundTrips.antt", "read-answered write-answered every-read every-write read-public write-public"),
     ("theorem/proofs/RoundTrips.antt", "read-exact read-then-write read-then-refused write-then-read write-retired retired-write"),
     ("belaykeel_offers/specs/Page.antt", "page-of-input"),

@@ -1,6 +1,6 @@
 //! The jobs of the library in plain Rust. The tests compare the proved code with it, and the programs `read_write_times`, `engines`,
-//! `savings`, `calls` and `closings` time both. The program `selections` times the proved code with fewer fields selected, `lists` lists of
-//! decisions beside their single calls, and `triple_costs` whole calls on sheets with triples.
+//! `savings`, `calls` and `closings` time both. The program `selections` times the proved code with fewer fields selected, and
+//! `triple_costs` whole calls on sheets with triples.
 
 #![deny(unsafe_code)]
 

@@ -4,14 +4,13 @@ use crate::plain::read_write::outline;
 use crate::sheets::Series;
 use crate::Domains;
 use belaykeel::raw::{MEMORY_WORDS, OFFERS_WORDS, ROWS_WORDS};
-use belaykeel::{Engine, Session, ENTRIES};
+use belaykeel::{Engine, Session};
 use harness::library::{Lent, Library};
 use harness::linked::Linked;
 use harness::sheets::{bytes, numbers};
 use public_calls::Call;
 use random::Random;
 use solver::Sheet;
-use std::collections::VecDeque;
 
 /// A sheet's list of numbers to solve, with its start set, the order of its fields and the mask of those that are selected.
 #[derive(Clone, Debug)]
@@ -149,57 +148,6 @@ fn tasks(sheet: &Sheet, seed: u64) -> Option<Vec<Task>> {
     tasks.extend(calls.map(|(session, call)| open.with(session, call)));
     tasks.push(open.with(&room.task.session, Call::WithdrawChoice(g, u)));
     Some(tasks)
-}
-
-/// How the decisions of a list are drawn: kinds of calls, by turns.
-pub type Kinds = [fn(u32, u32) -> Call];
-
-/// A list call with as many entries as may be, on a session that was just opened, and its entries as single calls. Each is accepted. Where
-/// no field has two offers to decide between, the oldest decision is withdrawn. Nothing where the sheet is wiped out.
-pub fn list_of(sheet: &Sheet, seed: u64, kinds: &Kinds) -> Option<(Task, Vec<Call>)> {
-    let mut random = Random(seed);
-    let open = Task::open(sheet);
-    let mut room = Room { spaces: Spaces::default(), task: open.clone() };
-    room.call(&open.call).then_some(())?;
-    let opened = room.task.session.clone();
-    let (mut calls, mut held) = (vec![], VecDeque::new());
-    for place in 0..ENTRIES {
-        let call = match room.decide(&mut random, kinds[place % kinds.len()]) {
-            Some(decision) => {
-                held.push_back(decision.clone());
-                decision
-            }
-            None => {
-                let withdrawal = withdrawal(&held.pop_front()?);
-                assert!(room.call(&withdrawal), "a withdrawal is accepted");
-                withdrawal
-            }
-        };
-        calls.push(call);
-    }
-    let list = calls.iter().flat_map(entry).collect();
-    Some((open.with(&opened, Call::List(list)), calls))
-}
-
-/// The withdrawal of a decision.
-fn withdrawal(decision: &Call) -> Call {
-    match *decision {
-        Call::Choose(f, v) => Call::WithdrawChoice(f, v),
-        Call::Strike(f, v) => Call::WithdrawStrike(f, v),
-        _ => unreachable!("{decision:?} is no decision"),
-    }
-}
-
-/// The three bytes of a single call in a list.
-pub fn entry(call: &Call) -> [u8; 3] {
-    let (code, f, v) = match *call {
-        Call::Choose(f, v) => (1, f, v),
-        Call::Strike(f, v) => (2, f, v),
-        Call::WithdrawChoice(f, v) => (3, f, v),
-        Call::WithdrawStrike(f, v) => (4, f, v),
-        _ => unreachable!("{call:?} is no entry"),
-    };
-    [code, f as u8, v as u8]
 }
 
 /// Sheets of a series, each with the calls to be timed.

@@ -9,7 +9,7 @@ use benchmarks::plain::methods;
 use benchmarks::sheets::{Class, Series, Source, MILLS, REACHES};
 use benchmarks::task::{Chosen, CALLS};
 use harness::case::{Given, Step};
-use harness::library::{Lent, Library, Space};
+use harness::library::{Lent, Library};
 use harness::linked::Linked;
 use harness::shapes::Size;
 use harness::sheets::{bytes, damaged};
@@ -19,10 +19,10 @@ use harness::{forge, taste};
 use public_calls::Name;
 use random::Random;
 
-/// What a library leaves: the number, the session, the offers list and the number list.
-fn left(library: &mut dyn Library, before: &Session, given: &Given, sheet: &[u8]) -> (u32, Session, [Vec<u32>; 2]) {
+/// What a library leaves: the number, the session and the offers list.
+fn left(library: &mut dyn Library, before: &Session, given: &Given, sheet: &[u8]) -> (u32, Session, Vec<u32>) {
     let mut session = before.clone();
-    let [mut offers, mut numbers] = ["offers", "numbers"].map(|space| vec![0xA5C3_0F1E; given.length(space)]);
+    let mut offers = vec![0xA5C3_0F1E; given.length("offers")];
     let mut lent = Lent {
         session: &mut session,
         sheet: given.sheet.as_deref().unwrap_or(sheet),
@@ -31,10 +31,10 @@ fn left(library: &mut dyn Library, before: &Session, given: &Given, sheet: &[u8]
         offers: &mut offers,
         rows: &mut vec![0; given.length("rows")],
         memory: &mut vec![0; given.length("memory")],
-        own: vec![("numbers", Space::Words(&mut numbers))],
+        own: vec![],
     };
     let number = library.call(&given.call, &mut lent).number;
-    (number, session, [offers, numbers])
+    (number, session, offers)
 }
 
 /// A sequence of calls that the seed decides; each is made by the proved library and a plain one.

@@ -22,7 +22,6 @@ const PROGRAMS: &[Program] = programs! {
     "calls": 8,
     "closings": 5,
     "engines": 9,
-    "lists": 2,
     "read_write_times": 2,
     "savings": 5,
     "selections": 2,

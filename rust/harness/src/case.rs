@@ -2,7 +2,7 @@
 
 use crate::spaces::Fill;
 use belaykeel::raw::{MEMORY_WORDS, OFFERS_WORDS, ROWS_WORDS, SHEET_BYTES};
-use belaykeel::{Session, ENTRIES};
+use belaykeel::Session;
 use public_calls::{Call, Value};
 use std::collections::BTreeMap;
 
@@ -36,14 +36,12 @@ pub struct Case {
     pub steps: Vec<Step>,
 }
 
-/// A length of a lent space that is enough, and for those that every call with a session has just enough. For a number list it is enough
-/// also where the list has more entries than it may have.
+/// A length of a lent space that is enough, and for those that every call with a session has just enough.
 pub fn enough(space: &str) -> usize {
     match space {
         "offers" => OFFERS_WORDS,
         "rows" => ROWS_WORDS,
         "memory" => MEMORY_WORDS,
-        "numbers" => 2 * ENTRIES,
         _ => SHEET_BYTES,
     }
 }

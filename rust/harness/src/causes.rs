@@ -2,8 +2,7 @@
 //! brought about first, so that each holds whatever the others are.
 
 use crate::case::{with_number, Case, Given, Step};
-use crate::lists;
-use belaykeel::{Event, Session, ENTRIES, EVENTS};
+use belaykeel::{Event, Session, EVENTS};
 use public_calls::{Call, Name, Row};
 
 /// A way to bring about a cause.
@@ -25,8 +24,6 @@ const DISTANCE: usize = 13;
 const SECOND: usize = SHEET.len() - 3;
 /// The setting of the calls that take one.
 const SETTING: (u32, u32) = (2, 0);
-/// The list of the call that takes one: a choice, an entry with no code, and the choice withdrawn.
-const LIST: [u8; 9] = [1, 2, 0, 0, 0, 0, 3, 2, 0];
 /// A strike that no call makes, for events.
 const STRUCK: Event = Event { kind: 2, field: 2, position: 1 };
 
@@ -56,13 +53,11 @@ pub fn accepted(name: Name) -> Case {
         }
         Name::Back => Call::Back,
         Name::CoilOn => Call::CoilOn,
-        Name::List => Call::List(LIST.to_vec()),
         Name::Read => Call::Read,
         Name::Write => Call::Write(list.clone()),
     };
     let mut given = Given::plain(call, vec![2, 0, 1]);
     given.lengths.entry("output").and_modify(|length| *length = list.len());
-    given.lengths.entry("numbers").and_modify(|length| *length = LIST.len() / 3);
     Case { sheet: SHEET.to_vec(), session: Box::new(session), steps: vec![Step::Call(given)] }
 }
 
@@ -84,11 +79,6 @@ fn change_sheet(case: &mut Case, bytes: fn(&mut Vec<u8>), numbers: fn(&mut Vec<u
         Call::Write(list) => numbers(list),
         _ => bytes(&mut case.sheet),
     }
-}
-
-/// Gives the list call a list of so many bytes, and a number list that is just long enough.
-fn relist(case: &mut Case, length: usize) {
-    lists::replace(given(case), LIST.into_iter().cycle().take(length).collect());
 }
 
 /// Sets a number of the call's own.
@@ -135,11 +125,7 @@ pub static CAUSES: &[Cause] = &[
     Cause { number: 6, says: "the offers list is short", of: |row| row.has("offers"), bring: |case| shorten(case, "offers") },
     Cause { number: 6, says: "the first work space is short", of: |row| row.has("rows"), bring: |case| shorten(case, "rows") },
     Cause { number: 6, says: "the second work space is short", of: |row| row.has("memory"), bring: |case| shorten(case, "memory") },
-    Cause { number: 6, says: "the number list is short", of: |row| row.has("list"), bring: |case| shorten(case, "numbers") },
     Cause { number: 6, says: "the output is short", of: |row| row.has("output"), bring: |case| shorten(case, "output") },
-    Cause { number: 16, says: "the list has a byte too many", of: any, bring: |case| relist(case, LIST.len() + 1) },
-    Cause { number: 16, says: "the list has a byte too few", of: any, bring: |case| relist(case, LIST.len() - 1) },
-    Cause { number: 16, says: "the list has 65 entries", of: any, bring: |case| relist(case, 3 * ENTRIES + 3) },
     Cause { number: 1, says: "the sheet ends early", of: any,
         bring: |case| change_sheet(case, |bytes| bytes.truncate(SHEET.len() - 1), |numbers| numbers.truncate(SHEET.len() - 1)) },
     Cause { number: 2, says: "a number ends with a group of 0", of: any,

@@ -63,7 +63,6 @@ pub fn sequence(maker: Maker, plan: Plan, seed: u64, tally: &mut Tally) -> Resul
             Ok(Some(number)) => {
                 if let Some(Step::Call(call)) = steps.last() {
                     tally.add(call, &in_force, held, number);
-                    tally.enter(runner.written("numbers"));
                 }
                 if place == 0 && number != 0 && !plan.damaged && random.below(8) > 0 {
                     break;

@@ -3,7 +3,6 @@
 pub mod counting;
 mod groups;
 mod judging;
-mod lists;
 mod making;
 pub mod offers;
 mod page;
@@ -20,7 +19,7 @@ mod writing;
 use crate::library::{Answer, Lent, Library};
 use crate::linked::Linked;
 use belaykeel::Session;
-use making::{answer, gave_offers};
+use making::answer;
 use page::Page;
 use public_calls::{Call, Name};
 use remembering::Memory;
@@ -38,7 +37,7 @@ pub struct Fault {
 /// What the faulty library does; in all else it is the linked one.
 #[derive(Clone, Copy)]
 pub enum How {
-    /// Writes these offers where an accepted call gave offers; where there are none, those of the library stay.
+    /// Writes these offers where a call that gives offers is accepted; where there are none, those of the library stay.
     Offers(fn(&Page) -> Option<Set>),
     /// Spoils the session after this call, where it is accepted, by the session before it and the one after it.
     Session(Name, fn(&Session, &mut Session)),
@@ -78,7 +77,7 @@ impl Library for Planted {
         let before = lent.session.clone();
         let answered = Linked.call(call, lent);
         match (self.how, answered.number) {
-            (How::Offers(offers), 0) if gave_offers(call, lent) => write(offers, call, lent),
+            (How::Offers(offers), 0) if call.row().has("offers") => write(offers, call, lent),
             (How::Session(name, spoil), 0) if call.name() == name => spoil(&before, lent.session),
             (How::Accepted(spoil), 0) => spoil(&before, call, lent),
             (How::Refused(spoil), number) if number > 0 => spoil(number, call, lent),
@@ -116,7 +115,7 @@ fn other(number: u32, call: &Call, answered: Answer) -> Answer {
 /// Every row, subject by subject.
 pub fn all() -> impl Iterator<Item = &'static Fault> {
     let engines = [offers::ROWS, selecting::ROWS, rules::ROWS, counting::ROWS, triples::ROWS, starting::ROWS, remembering::ROWS];
-    let calls = [sessions::ROWS, judging::ROWS, spaces::ROWS, lists::ROWS, sheets::ROWS, writing::ROWS];
+    let calls = [sessions::ROWS, judging::ROWS, spaces::ROWS, sheets::ROWS, writing::ROWS];
     engines.into_iter().chain(calls).flatten()
 }
 

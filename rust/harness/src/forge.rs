@@ -1,4 +1,4 @@
-//! Forged sessions: well-formed ones that calls may never reach, damaged ones and plain noise. Settings on a sheet, off it and in force.
+//! Forged sessions: well-formed ones that calls may never reach, damaged ones and plain noise.
 
 use crate::selections::{bad, good};
 use crate::sheets::edge;
@@ -47,30 +47,6 @@ pub fn opened(random: &mut Random, sheet: &Sheet) -> Box<Session> {
 pub fn setting(random: &mut Random, sheet: &Sheet) -> (u32, u32) {
     let field = random.below(sheet.fields());
     (field as u32, random.below(sheet.settings[field].len()) as u32)
-}
-
-/// A setting that the sheet does not have, just past its last or far beyond.
-pub fn off_sheet(random: &mut Random, sheet: &Sheet) -> (u32, u32) {
-    let (field, position) = setting(random, sheet);
-    let n = sheet.fields() as u32;
-    let d = sheet.settings[field as usize].len() as u32;
-    let far = [24, 25, 31, 32, 64, 255, 256, 257, 1 << 16, 1 << 31, u32::MAX];
-    match random.below(4) {
-        0 => (n, position),
-        1 => (field, d),
-        2 => (random.pick(&far), position),
-        _ => (field, random.pick(&far)),
-    }
-}
-
-/// Mostly a setting that these masks hold.
-pub fn in_force(random: &mut Random, masks: &[u32]) -> Option<(u32, u32)> {
-    if random.one_in(8) {
-        return None;
-    }
-    let bits = |f: u32| (0..32).filter(move |v| masks[f as usize] >> v & 1 == 1).map(move |v| (f, v));
-    let held: Vec<(u32, u32)> = (0..24).flat_map(bits).collect();
-    (!held.is_empty()).then(|| random.pick(&held))
 }
 
 fn decision(random: &mut Random, sheet: &Sheet) -> Decision {

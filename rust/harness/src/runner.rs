@@ -15,8 +15,6 @@ pub struct Runner<'l> {
     /// What the solver has after the calls so far, the sheet in force among it.
     state: State,
     spaces: Spaces,
-    /// What the last call wrote to lent spaces, by their names.
-    written: Vec<(&'static str, Vec<u32>)>,
     calls: u64,
 }
 
@@ -67,7 +65,7 @@ impl Spaces {
 impl<'l> Runner<'l> {
     pub fn new(library: &'l mut dyn Library, sheet: &[u8], session: &Session) -> Runner<'l> {
         let state = State::new(sheet, &words(session));
-        Runner { library, session: session.clone(), state, spaces: Spaces::default(), written: vec![], calls: 0 }
+        Runner { library, session: session.clone(), state, spaces: Spaces::default(), calls: 0 }
     }
 
     /// The session as the last call left it.
@@ -78,11 +76,6 @@ impl<'l> Runner<'l> {
     /// The sheet in force.
     pub fn sheet(&self) -> &[u8] {
         &self.state.sheet
-    }
-
-    /// What the last call wrote to a lent space.
-    pub fn written(&self, space: &str) -> &[u32] {
-        self.written.iter().find(|(name, _)| *name == space).map_or(&[], |(_, words)| words)
     }
 
     /// Makes a step. Gives the number of its call, or says what differs.
@@ -122,7 +115,7 @@ impl<'l> Runner<'l> {
             },
         );
         self.compare(given, &answer, &effect, before)?;
-        (self.state, self.written) = (effect.state, effect.written);
+        self.state = effect.state;
         Ok(answer.number)
     }
 

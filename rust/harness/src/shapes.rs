@@ -217,9 +217,9 @@ fn mixed(random: &mut Random, frame: Frame) -> Sheet {
         let kind = random.below(6) as u32;
         let numbers = match kind {
             0 => settings[i].iter().map(|_| (random.word() | random.word()) as u32 % (1 << settings[j].len())).collect(),
+            4 => vec![random.from(span / 4, span - 1) as u32],
             5 if random.one_in(2) => vec![near_distance(random, &settings[i], &settings[j])],
             _ if random.one_in(6) => vec![edge_amount(random)],
-            4 => vec![random.from(span / 4, span - 1) as u32],
             _ => vec![random.below(span / 6 + 1) as u32],
         };
         rules.push(Rule { i, j, kind, numbers });
@@ -237,7 +237,7 @@ fn near_distance(random: &mut Random, first: &[u32], second: &[u32]) -> u32 {
 /// A number c near an end of the range, near where a word of 16 bits ends, or a large one between.
 fn edge_amount(random: &mut Random) -> u32 {
     let end = random.pick(&[RANGE, RANGE, WORD + 2, 40_000, 1]);
-    (end - random.pick(&[1, 1, 2, 3]).min(end)) as u32
+    (end - random.from(1, end.min(3))) as u32
 }
 
 /// Up to d settings below the span, around the end of a word of 16 bits or at the top of the range, strictly rising.

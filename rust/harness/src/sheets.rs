@@ -6,10 +6,6 @@ use crate::Random;
 use solver::reading::groups;
 use solver::{Rule, Sheet, Triple, LARGEST_SETTING, MOST_TRIPLES};
 
-/// Sheet D of the scope paper.
-pub const SHEET_D: [u8; 19] =
-    [0x02, 0x03, 0x64, 0xC8, 0x01, 0xAC, 0x02, 0x03, 0x64, 0xC8, 0x01, 0xAC, 0x02, 0x18, 0x01, 0x00, 0x01, 0x01, 0x64];
-
 /// The list of numbers of a sheet.
 pub fn numbers(sheet: &Sheet) -> Vec<u32> {
     let mut numbers = vec![sheet.fields() as u32];

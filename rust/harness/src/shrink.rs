@@ -1,13 +1,13 @@
-//! Makes a failing case small: fewer calls, entries, fields, rules, triples and settings, and plainer arguments, as long as it still fails.
-//! Calls, and the first entries of a list, are left out, or folded into the session and the sheet that they lead to.
+//! Makes a failing case small: fewer calls, fields, rules, triples and settings, and plainer arguments, as long as it still fails. Calls
+//! are left out, or folded into the session and the sheet that they lead to.
 
 use crate::case::{enough, number, with_number, Case, Step};
-use crate::entries;
 use crate::runner::expected;
 use crate::smaller::{with_sheet, without_field, without_setting};
 use crate::spaces::Fill;
 use crate::words::{session, words};
 use belaykeel::{Event, Session};
+use public_calls::Value;
 use solver::{reading, State};
 use std::cell::Cell;
 
@@ -18,7 +18,6 @@ const MOST_RUNS: usize = 20_000;
 #[derive(Clone, Copy, Debug)]
 enum Change {
     Fold(usize),
-    FoldEntries(usize),
     Field(usize),
     Rule(usize),
     Triple(usize),
@@ -62,9 +61,6 @@ fn places(one: &Session, other: &Session) -> Vec<usize> {
 /// All attempts on a case, so ordered that those still to come stay valid.
 fn changes(case: &Case) -> Vec<Change> {
     let mut changes: Vec<Change> = (1..case.steps.len()).rev().map(Change::Fold).collect();
-    if let Some(Step::Call(given)) = case.steps.first() {
-        changes.extend((1..entries::count(&given.call)).rev().map(Change::FoldEntries));
-    }
     changes.push(Change::EmptySession);
     changes.extend(places(&case.session, &Session::default()).into_iter().map(|place| Change::Word(None, place)));
     if let Ok(sheet) = reading::sheet(&case.sheet) {
@@ -84,7 +80,8 @@ fn changes(case: &Case) -> Vec<Change> {
             Step::Call(given) => {
                 changes.extend([Change::OneSheet(step), Change::SameSheet(step), Change::Engine(step), Change::Order(step)]);
                 changes.extend([Change::Spaces(step), Change::Zeros(step)]);
-                changes.extend((0..entries::count(&given.call)).rev().map(|entry| Change::ShorterList(step, entry)));
+                let longest = given.call.values().iter().map(length).max().unwrap_or(0);
+                changes.extend((0..longest).rev().map(|entry| Change::ShorterList(step, entry)));
             }
             Step::Session(session) => {
                 let differ = places(session, &Session::default());
@@ -98,6 +95,34 @@ fn changes(case: &Case) -> Vec<Change> {
         changes.extend((0..u32::BITS).rev().map(|bit| Change::Bit(holder, bit)));
     }
     changes
+}
+
+/// How many entries a value has; 0 for a number.
+fn length(value: &Value) -> usize {
+    match value {
+        Value::Number(_) => 0,
+        Value::Sheet(bytes) | Value::Bytes(bytes) => bytes.len(),
+        Value::Words(words) => words.len(),
+    }
+}
+
+/// The value without an entry, where it has so many.
+fn without_entry(value: Value, entry: usize) -> Value {
+    match value {
+        Value::Sheet(mut bytes) if entry < bytes.len() => {
+            bytes.remove(entry);
+            Value::Sheet(bytes)
+        }
+        Value::Bytes(mut bytes) if entry < bytes.len() => {
+            bytes.remove(entry);
+            Value::Bytes(bytes)
+        }
+        Value::Words(mut words) if entry < words.len() => {
+            words.remove(entry);
+            Value::Words(words)
+        }
+        value => value,
+    }
 }
 
 /// Removes the entry at a place, where there is one.
@@ -124,18 +149,9 @@ fn folded(case: &Case, steps: usize) -> Option<Case> {
     Some(Case { sheet: state.sheet, session, steps: rest.to_vec() })
 }
 
-/// The case whose first step, a list call, is two.
-fn with_first_split(case: &Case, entries: usize) -> Option<Case> {
-    let (first, rest) = case.steps.split_first()?;
-    let Step::Call(given) = first else { return None };
-    let steps = entries::split(given, entries)?.into_iter().map(Step::Call).chain(rest.iter().cloned());
-    Some(Case { steps: steps.collect(), ..case.clone() })
-}
-
 fn applied(case: &Case, change: Change) -> Option<Case> {
     match change {
         Change::Fold(steps) => folded(case, steps),
-        Change::FoldEntries(entries) => folded(&with_first_split(case, entries)?, 1),
         Change::Field(f) => without_field(case, f),
         Change::Setting(f, v) => without_setting(case, f, v),
         Change::Rule(r) => with_sheet(case, |sheet| remove(&mut sheet.rules, r)),
@@ -206,7 +222,10 @@ fn plainer(case: &Case, step: usize, change: Change) -> Option<Case> {
         Change::Engine(_) => given.engine = 1,
         Change::Order(_) => given.order.sort_unstable(),
         Change::Spaces(_) => given.lengths.iter_mut().for_each(|(space, length)| *length = enough(space)),
-        Change::ShorterList(_, entry) => entries::leave_out(given, entry),
+        Change::ShorterList(_, entry) => {
+            let values: Vec<Value> = given.call.values().into_iter().map(|value| without_entry(value, entry)).collect();
+            given.call = given.call.with(&values);
+        }
         _ => given.fill = Fill::Word(0),
     }
     Some(plainer)

@@ -1,10 +1,8 @@
 //! A sheet without one of its fields or settings, and a case without it: sheet, calls, orders and sessions are renumbered together.
 
 use crate::case::{number, setting, with_number, with_setting, Case, Given, Step};
-use crate::lists;
 use crate::sheets::bytes;
 use belaykeel::{Event, Session, EVENTS};
-use public_calls::Call;
 use solver::{reading, Sheet, Triple};
 
 /// Takes place `at` out of a count: what stands above moves down, and `at` itself is gone.
@@ -87,21 +85,8 @@ impl Moves<'_> {
             let (field, position) = (self.setting)(field, position)?;
             given.call = with_setting(&given.call, field, position);
         }
-        if let Call::List(list) = &given.call {
-            let list = self.list(list);
-            lists::replace(&mut given, list);
-        }
         given.order = (self.order)(&given.order);
         Some(given)
-    }
-
-    /// The list without the entries whose settings are gone. What follows the last whole entry stays.
-    fn list(&self, list: &[u8]) -> Vec<u8> {
-        let entry = |entry: &[u8]| match *entry {
-            [code, field, position] => (self.setting)(field.into(), position.into()).map(|(f, v)| vec![code, f as u8, v as u8]),
-            _ => Some(entry.to_vec()),
-        };
-        list.chunks(3).filter_map(entry).flatten().collect()
     }
 
     fn session(&self, session: &Session) -> Session {

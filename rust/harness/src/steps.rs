@@ -1,8 +1,7 @@
 //! Random steps: a call with a fresh engine, order and spaces, now and then with something wrong.
 
 use crate::case::{enough, setting, with_number, with_setting, Given, Step};
-use crate::forge::{self, in_force, off_sheet};
-use crate::lists;
+use crate::forge;
 use crate::random_triples::with_surplus;
 use crate::selections::{any, bad, good};
 use crate::shapes::another;
@@ -30,8 +29,6 @@ pub struct Habits {
 /// Strikes that are made and withdrawn, with hardly anything else.
 const STRIKING: &[(Name, usize)] =
     &[(Name::Choose, 1), (Name::Strike, 20), (Name::WithdrawChoice, 1), (Name::WithdrawStrike, 20), (Name::Back, 1)];
-/// Decisions sent as lists.
-const LISTING: &[(Name, usize)] = &[(Name::Open, 1), (Name::Strike, 2), (Name::Back, 2), (Name::CoilOn, 2), (Name::List, 12)];
 /// More steps back than forward.
 const GOING_BACK: &[(Name, usize)] = &[
     (Name::Show, 1),
@@ -41,7 +38,6 @@ const GOING_BACK: &[(Name, usize)] = &[
     (Name::WithdrawStrike, 8),
     (Name::Back, 25),
     (Name::CoilOn, 1),
-    (Name::List, 2),
 ];
 /// Decisions that are seldom withdrawn.
 const DECIDING: &[(Name, usize)] = &[
@@ -53,7 +49,6 @@ const DECIDING: &[(Name, usize)] = &[
     (Name::WithdrawStrike, 3),
     (Name::Back, 4),
     (Name::CoilOn, 1),
-    (Name::List, 2),
 ];
 /// Often opened afresh.
 const OPENING: &[(Name, usize)] = &[
@@ -65,7 +60,6 @@ const OPENING: &[(Name, usize)] = &[
     (Name::WithdrawStrike, 3),
     (Name::Back, 4),
     (Name::CoilOn, 3),
-    (Name::List, 2),
 ];
 /// Sheets that are read and written.
 const READING: &[(Name, usize)] = &[(Name::Open, 1), (Name::Read, 10), (Name::Write, 10)];
@@ -78,8 +72,7 @@ const MIXED: &[(Name, usize)] = &[
     (Name::WithdrawChoice, 8),
     (Name::WithdrawStrike, 8),
     (Name::Back, 6),
-    (Name::CoilOn, 3),
-    (Name::List, 4),
+    (Name::CoilOn, 2),
     (Name::Read, 2),
     (Name::Write, 2),
 ];
@@ -87,9 +80,9 @@ const MIXED: &[(Name, usize)] = &[
 impl Habits {
     /// The habits of one sequence.
     pub fn draw(random: &mut Random, forging: bool) -> Habits {
-        let mut weights = random.pick(&[STRIKING, LISTING, GOING_BACK, DECIDING, OPENING, READING, MIXED, MIXED, MIXED]).to_vec();
+        let mut weights = random.pick(&[STRIKING, GOING_BACK, DECIDING, OPENING, READING, MIXED, MIXED, MIXED]).to_vec();
         if forging {
-            weights.extend([(Name::Show, 10), (Name::CoilOn, 3), (Name::List, 3)]);
+            weights.extend([(Name::Show, 10), (Name::CoilOn, 3)]);
         }
         let wrong = random.pick(&[3, 8, 20, 1000]);
         let forged = if forging { random.pick(&[2, 4, 12, 40]) } else { usize::MAX };
@@ -145,19 +138,28 @@ fn call(random: &mut Random, name: Name, sheet: &Sheet, session: &Session) -> Ca
         }
         Name::Back => Call::Back,
         Name::CoilOn => Call::CoilOn,
-        Name::List => Call::List(lists::list(random, sheet, session)),
         Name::Read => Call::Read,
-        Name::Write => Call::Write(written(random, sheet)),
+        Name::Write => Call::Write(list(random, sheet)),
     }
 }
 
 /// The list of a sheet's numbers, often damaged.
-fn written(random: &mut Random, sheet: &Sheet) -> Vec<u32> {
+fn list(random: &mut Random, sheet: &Sheet) -> Vec<u32> {
     let mut list = numbers(sheet);
     if random.one_in(2) {
         damage_list(random, sheet, &mut list);
     }
     list
+}
+
+/// Mostly a setting that these masks hold.
+fn in_force(random: &mut Random, masks: &[u32]) -> Option<(u32, u32)> {
+    if random.one_in(8) {
+        return None;
+    }
+    let bits = |f: u32| (0..32).filter(move |v| masks[f as usize] >> v & 1 == 1).map(move |v| (f, v));
+    let held: Vec<(u32, u32)> = (0..24).flat_map(bits).collect();
+    (!held.is_empty()).then(|| random.pick(&held))
 }
 
 /// The call with a valid engine and order and spaces that are long enough.
@@ -180,14 +182,13 @@ pub fn needed(call: &Call, sheet: &Sheet, space: &str) -> usize {
     match call {
         Call::Read => numbers(sheet).len(),
         Call::Write(numbers) => groups(numbers).len(),
-        Call::List(list) if space == "numbers" => list.len() / 3,
         _ => enough(space),
     }
 }
 
 /// Makes one argument wrong, or at least unusual: one that a stage of the call's causes is about.
 fn spoil(random: &mut Random, sheet: &Sheet, given: &mut Given) {
-    let by_arguments = |stage: &&&[u32]| stage.iter().any(|number| [1, 6, 7, 9, 16, 18].contains(number));
+    let by_arguments = |stage: &&&[u32]| stage.iter().any(|number| [1, 6, 7, 9, 18].contains(number));
     let stages: Vec<&[u32]> = given.call.row().stages.iter().filter(by_arguments).copied().collect();
     match random.pick(&stages)[0] {
         1 => spoil_sheet(random, sheet, given),
@@ -198,7 +199,6 @@ fn spoil(random: &mut Random, sheet: &Sheet, given: &mut Given) {
         }
         7 => given.engine = random.pick(&[0, 4, 5, 257, 258, u32::MAX]),
         9 => spoil_order(random, &mut given.order),
-        16 => spoil_list(random, given),
         _ => given.call = with_number(&given.call, "selected", bad(random, sheet.fields())),
     }
 }
@@ -215,14 +215,6 @@ fn spoil_sheet(random: &mut Random, sheet: &Sheet, given: &mut Given) {
     });
 }
 
-/// Gives a list of a wrong length.
-fn spoil_list(random: &mut Random, given: &mut Given) {
-    if let Call::List(list) = &given.call {
-        let list = lists::misshapen(random, list);
-        lists::replace(given, list);
-    }
-}
-
 /// Makes one of the lent spaces too short, or all by one.
 fn spoil_spaces(random: &mut Random, sheet: &Sheet, given: &mut Given) {
     let spaces: Vec<&str> = given.lengths.keys().copied().collect();
@@ -233,6 +225,19 @@ fn spoil_spaces(random: &mut Random, sheet: &Sheet, given: &mut Given) {
         let shorter = [least.saturating_sub(1), least.saturating_sub(2), 1, 0, random.below(least + 1)];
         let length = if all { shorter[0] } else { random.pick(&shorter) };
         given.lengths.entry(space).and_modify(|held| *held = length);
+    }
+}
+
+fn off_sheet(random: &mut Random, sheet: &Sheet) -> (u32, u32) {
+    let (field, position) = forge::setting(random, sheet);
+    let n = sheet.fields() as u32;
+    let d = sheet.settings[field as usize].len() as u32;
+    let far = [24, 25, 31, 32, 64, 255, 256, 257, 1 << 16, 1 << 31, u32::MAX];
+    match random.below(4) {
+        0 => (n, position),
+        1 => (field, d),
+        2 => (random.pick(&far), position),
+        _ => (field, random.pick(&far)),
     }
 }
 

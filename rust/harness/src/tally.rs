@@ -1,5 +1,5 @@
-//! How often each call gave each number and entries of lists got each, which sheets it met, with which engine at which reach calls were
-//! accepted, and which fields were selected.
+//! How often each call gave each number, which sheets it met, with which engine at which reach calls were accepted, and which fields were
+//! selected.
 
 use crate::case::{number, Given};
 use crate::selections::Extent;
@@ -9,38 +9,10 @@ use solver::{reading, Sheet};
 use std::collections::{BTreeMap, BTreeSet};
 use std::fmt;
 
-/// Where an entry stands in its list.
-#[derive(Clone, Copy, Debug, PartialEq, Eq, PartialOrd, Ord)]
-pub enum Place {
-    Only,
-    First,
-    Middle,
-    Last,
-}
-
-impl Place {
-    pub const ALL: [Place; 4] = [Place::Only, Place::First, Place::Middle, Place::Last];
-
-    /// That of an entry among so many.
-    fn of(entry: usize, entries: usize) -> Place {
-        match entry {
-            0 if entries == 1 => Place::Only,
-            0 => Place::First,
-            _ if entry + 1 == entries => Place::Last,
-            _ => Place::Middle,
-        }
-    }
-}
-
 #[derive(Clone, Debug, Default)]
 pub struct Tally {
     /// How often each call gave each number.
     counts: BTreeMap<(Name, u32), u64>,
-    /// How often an entry of a list got each number, by where it stood.
-    pub entries: BTreeMap<(Place, u32), u64>,
-    /// The lists whose last entry was refused after one that was accepted, and those with entries of which none was accepted.
-    pub last_refused: u64,
-    pub all_refused: u64,
     /// The accepted calls, for each engine by the reach of their sheet.
     pub accepted: [[u64; 24]; 3],
     /// The accepted calls, for each engine by what is selected.
@@ -64,7 +36,7 @@ impl Tally {
     /// Counts a call on a sheet, which gave this number. The session's mask before it is `held`.
     pub fn add(&mut self, given: &Given, sheet: &[u8], held: u32, answered: u32) {
         *self.counts.entry((given.call.name(), answered)).or_default() += 1;
-        if !given.call.row().has("session") || matches!(answered, 1..=6 | 16) {
+        if !given.call.row().has("session") || (1..=6).contains(&answered) {
             return;
         }
         let sheet = reading::sheet(given.sheet.as_deref().unwrap_or(sheet)).expect("the sheet was read");
@@ -77,16 +49,6 @@ impl Tally {
             *self.selected[given.engine as usize - 1].entry(extent).or_default() += 1;
             self.reselected += u64::from(opened.is_some_and(|opened| opened != held) && sheet.selects(held));
         }
-    }
-
-    /// Counts the entries of a list call, which got these numbers.
-    pub fn enter(&mut self, numbers: &[u32]) {
-        for (entry, &number) in numbers.iter().enumerate() {
-            *self.entries.entry((Place::of(entry, numbers.len()), number)).or_default() += 1;
-        }
-        let last_refused = numbers.last().is_some_and(|number| *number > 0);
-        self.last_refused += u64::from(last_refused && numbers.contains(&0));
-        self.all_refused += u64::from(last_refused && !numbers.contains(&0));
     }
 
     pub fn meet(&mut self, sheet: &Sheet) {
@@ -131,8 +93,6 @@ impl fmt::Display for Tally {
             }
             writeln!(formatter)?;
         }
-        writeln!(formatter, "entries {:?}", self.entries)?;
-        writeln!(formatter, "lists with the last entry refused {}, with every entry refused {}", self.last_refused, self.all_refused)?;
         let [fields, settings, triples] = [&self.fields, &self.settings, &self.triples].map(BTreeSet::len);
         let (reaches, kinds) = (self.reaches.len(), self.kinds.len());
         writeln!(formatter, "{fields} counts of fields, {settings} of settings, {triples} of triples, {reaches} reaches, {kinds} kinds")?;

@@ -4,7 +4,7 @@ use crate::library::{Answer, Calls, Lent};
 use crate::linked::Linked;
 use crate::selections::selection;
 use belaykeel::raw::{MEMORY_WORDS, OFFERS_WORDS, ROWS_WORDS};
-use belaykeel::{Engine, Event, Offers, Order, Refusal, Session, Sheet, WorkSpaces};
+use belaykeel::{Engine, Offers, Order, Refusal, Session, Sheet, WorkSpaces};
 
 /// Makes each call by the wrapper's method, wherever that can be asked for what is given, and else by the plain call.
 #[derive(Default)]
@@ -25,33 +25,24 @@ fn refused(refusal: Refusal) -> Answer {
     Answer { number: refusal.number(), others: vec![] }
 }
 
-/// An accepted call, which gives these offers, if any.
-fn accepted(offers: Option<Offers>, lent: &mut Lent) -> Answer {
-    if let Some(offers) = offers {
-        lent.offers[..offers.fields()].copy_from_slice(offers.masks());
-    }
-    Answer { number: 0, others: vec![] }
-}
-
 /// How many fields a sheet says that it has, at most 24.
 pub fn fields(sheet: &[u8]) -> usize {
     sheet.first().map_or(0, |&first| usize::from(first).min(OFFERS_WORDS))
 }
 
 impl Wrapped {
-    /// What a method is given; nothing where the wrapper has no such engine, or lends longer spaces than these.
-    fn plain(&mut self, lent: &Lent) -> Option<Plain<'_>> {
+    /// A call that gives offers, by a method; nothing where the wrapper has no such engine, or lends longer spaces than these.
+    fn offers(&mut self, lent: &mut Lent, method: impl FnOnce(&mut Session, Plain) -> Result<Offers, Refusal>) -> Option<Answer> {
         let enough = lent.offers.len() >= OFFERS_WORDS && lent.rows.len() >= ROWS_WORDS && lent.memory.len() >= MEMORY_WORDS;
         let engine = Engine::ALL.into_iter().find(|engine| engine.number() == lent.engine).filter(|_| enough)?;
         let rising = lent.order.iter().copied().eq(0..fields(lent.sheet) as u8);
         let order = if rising { Order::Rising } else { Order::Listed(lent.order.to_vec()) };
-        Some(Plain { sheet: Sheet::from_bytes(lent.sheet), engine, order, spaces: &mut self.spaces })
-    }
-
-    /// A call that gives offers, by a method, where it can be asked.
-    fn offers(&mut self, lent: &mut Lent, method: impl FnOnce(&mut Session, Plain) -> Result<Offers, Refusal>) -> Option<Answer> {
-        let given = self.plain(lent)?;
-        Some(method(lent.session, given).map_or_else(refused, |offers| accepted(Some(offers), lent)))
+        let given = Plain { sheet: Sheet::from_bytes(lent.sheet), engine, order, spaces: &mut self.spaces };
+        let accepted = |offers: Offers| {
+            lent.offers[..offers.fields()].copy_from_slice(offers.masks());
+            Answer { number: 0, others: vec![] }
+        };
+        Some(method(lent.session, given).map_or_else(refused, accepted))
     }
 }
 
@@ -82,21 +73,6 @@ impl Calls for Wrapped {
         let selection = selection(selected, fields(lent.sheet));
         let method = |session: &mut Session, given: Plain| session.open(&given.sheet, given.engine, &given.order, &selection, given.spaces);
         self.offers(lent, method).unwrap_or_else(|| Linked.open(lent, selected))
-    }
-
-    fn list(&mut self, lent: &mut Lent, list: &[u8]) -> Answer {
-        let event = |bytes: &[u8]| Event { kind: bytes[0].into(), field: bytes[1].into(), position: bytes[2].into() };
-        let entries: Vec<Event> = list.chunks_exact(3).map(event).collect();
-        let can_be_asked = list.len().is_multiple_of(3) && lent.own("numbers").words().len() >= entries.len();
-        let Some(given) = self.plain(lent).filter(|_| can_be_asked) else { return Linked.list(lent, list) };
-        match lent.session.apply(&given.sheet, given.engine, &given.order, &entries, given.spaces) {
-            Ok(applied) => {
-                let numbers = applied.entries.into_iter().map(|entry| entry.err().map_or(0, Refusal::number));
-                lent.own("numbers").words().iter_mut().zip(numbers).for_each(|(place, number)| *place = number);
-                accepted(applied.offers, lent)
-            }
-            Err(refusal) => refused(refusal),
-        }
     }
 
     fn read(&mut self, lent: &mut Lent) -> Answer {

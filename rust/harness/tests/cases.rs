@@ -2,9 +2,12 @@
 
 use belaykeel::{Engine, Refusal, Sheet};
 use harness::answers::{answer, last};
-use harness::sheets::{self, bytes, SHEET_D};
+use harness::sheets::{self, bytes};
 use public_calls::Call;
 use solver::reading::groups;
+
+const SHEET_D: [u8; 19] =
+    [0x02, 0x03, 0x64, 0xC8, 0x01, 0xAC, 0x02, 0x03, 0x64, 0xC8, 0x01, 0xAC, 0x02, 0x18, 0x01, 0x00, 0x01, 0x01, 0x64];
 
 /// Fields {1, 2}, the fields of each pair unequal.
 fn unequal(fields: usize, reach: u32, pairs: &[(usize, usize)]) -> Sheet {

@@ -11,8 +11,6 @@ open engine 1 order 0 1 selected 2 offers 24 rows 13248 memory 13824 fill word 0
 strike engine 2 order 1 0 field 0 position 2 offers 25 rows 13248 memory 13824 fill noise 7
 show sheet x8000 engine 0 order 1 1 offers 24 rows 0 memory 13824 fill left
 session choices 0:1 events 0:1:0:0 count 1 selected 1
-list engine 2 order 0 1 list 3 0 0 9 0 0 2 0 2 1 1 1 numbers 6 offers 24 rows 13248 memory 13824 fill left
-list engine 1 order 0 1 list 2 0 0 2 numbers 1 offers 24 rows 13248 memory 13824 fill left
 back engine 3 order 1 0 offers 24 rows 13248 memory 13825 fill left
 sheet x0101AC021800
 coil_on engine 1 order 0 offers 24 rows 13248 memory 13824 fill left

@@ -93,8 +93,7 @@ fn opened_again_and_again(seed: u64) -> usize {
             steps.push(step(Call::Open(bad(&mut random, n)), n));
             steps.push(refused_open(&mut random, n));
             steps.extend([Call::Show, Call::CoilOn, Call::Show, Call::Back].map(|call| step(call, n)));
-            let list = Call::List(vec![2, field as u8, position as u8]);
-            steps.extend([Call::WithdrawStrike(field, position), Call::Back, list, Call::Back].map(|call| step(call, n)));
+            steps.extend([Call::WithdrawStrike(field, position), Call::Back, Call::Back].map(|call| step(call, n)));
         }
         let case = Case { sheet: bytes(&page), session: forge::noise(&mut random), steps };
         let mut library = Linked;
@@ -137,7 +136,7 @@ fn sessions_with_any_mask() {
         for selected in [good(&mut random, n), all(n), 0, 1 << n, all(n) | 1 << n, 1 << 31, 1 | 1 << 24, u32::MAX] {
             let refused = Extent::BAD.contains(&Extent::of(selected, n));
             assert_eq!(number(&sheet, 0, Call::Open(selected)) == 18, refused, "{page:?}, {selected:b}");
-            for call in deciding.iter().chain(&[Call::Show, Call::Back, Call::CoilOn, Call::List(vec![])]) {
+            for call in deciding.iter().chain(&[Call::Show, Call::Back, Call::CoilOn]) {
                 assert_eq!(number(&sheet, selected, call.clone()) == 15, refused, "{page:?}, {selected:b}, {call:?}");
             }
         }

@@ -5,7 +5,7 @@ use harness::drive::{sequences, Plan};
 use harness::linked::Linked;
 use harness::selections::Extent;
 use harness::shapes::Size;
-use harness::tally::{Place, Tally};
+use harness::tally::Tally;
 use public_calls::Name;
 
 /// Runs this share of all calls, in parts of a thousand, and at least so many. None gives 8, and at least this share is accepted, in parts
@@ -36,13 +36,6 @@ fn all_selected(tally: &Tally) {
     assert!(accepted && opened && tally.reselected > 0, "{tally}");
 }
 
-/// Entries of lists got each of their numbers in every place, and lists ended with a refused entry, after an accepted one and without.
-fn all_entries(tally: &Tally) {
-    let expected = Place::ALL.into_iter().flat_map(|place| [0, 7, 10, 11, 12, 14].map(|number| (place, number)));
-    assert!(tally.entries.keys().copied().eq(expected), "{tally}");
-    assert!(tally.last_refused > 0 && tally.all_refused > 0, "{tally}");
-}
-
 /// Without forged sessions hardly any call but a decision is wiped out, or finds the session malformed.
 #[test]
 fn calls_on_small_sheets() {
@@ -51,7 +44,6 @@ fn calls_on_small_sheets() {
     assert!(tally.number(14) > 0, "{tally}");
     all_sheets(&tally);
     all_selected(&tally);
-    all_entries(&tally);
 }
 
 #[test]
@@ -60,7 +52,6 @@ fn forged_sessions() {
     given_by_every_call(&tally, &[]);
     all_sheets(&tally);
     all_selected(&tally);
-    all_entries(&tally);
     assert!(tally.held.keys().eq(Extent::GOOD.iter().chain(&Extent::BAD)), "{tally}");
 }
 

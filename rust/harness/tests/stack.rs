@@ -3,7 +3,7 @@
 
 use belaykeel::{Engine, Session};
 use harness::case::enough;
-use harness::library::{Lent, Library, Space};
+use harness::library::{Lent, Library};
 use harness::linked::Linked;
 use harness::repository::lines;
 use harness::shapes::every;
@@ -30,29 +30,24 @@ fn sheet() -> Vec<u8> {
     bytes(&Sheet { settings: (0..24).map(settings).collect(), reach: 24, rules, triples: most_triples() })
 }
 
-/// A list of decisions, of which the third is the first again and the fourth has another code. All are withdrawn.
-const LIST: [[u8; 3]; 6] = [[2, 2, 5], [1, 3, 7], [2, 2, 5], [0, 2, 5], [3, 3, 7], [4, 2, 5]];
-
 /// Makes the calls in turn; each is accepted.
 fn make(calls: &[Call], engine: Engine) {
     let (sheet, order): (Vec<u8>, Vec<u8>) = (sheet(), (0..24).collect());
     let [mut offers, mut rows, mut memory] = ["offers", "rows", "memory"].map(|space| vec![0; enough(space)]);
-    let (mut session, mut numbers) = (Box::new(Session::default()), [u32::MAX; LIST.len()]);
+    let mut session = Box::new(Session::default());
     for call in calls {
-        let own = vec![("numbers", Space::Words(&mut numbers))];
         let (session, offers, rows, memory) = (&mut *session, &mut offers[..], &mut rows[..], &mut memory[..]);
-        let mut lent = Lent { session, sheet: &sheet, engine: engine.number(), order: &order, offers, rows, memory, own };
+        let mut lent = Lent { session, sheet: &sheet, engine: engine.number(), order: &order, offers, rows, memory, own: vec![] };
         assert_eq!(Linked.call(call, &mut lent).number, 0, "{call:?}");
     }
     assert!(offers[..2] == [3; 2] && offers[2..] == [0xFF_FFFC; 22], "{offers:x?}");
-    assert_eq!(numbers, [0, 0, 10, 7, 0, 0]);
 }
 
 /// Makes every call that runs an engine, with each engine, on a thread with a stack of so many bytes.
 fn on_a_stack_of(size: usize) {
-    use Call::{Back, Choose, CoilOn, List, Open, Show, Strike, WithdrawChoice, WithdrawStrike};
+    use Call::{Back, Choose, CoilOn, Open, Show, Strike, WithdrawChoice, WithdrawStrike};
     let decided = [Open(0xFF_FFFF), Strike(2, 5), Choose(3, 7), Show, WithdrawStrike(2, 5), WithdrawChoice(3, 7)];
-    let calls = [&decided[..], &[Strike(2, 5), Back, CoilOn, List(LIST.concat())]].concat();
+    let calls = [&decided[..], &[Strike(2, 5), Back, CoilOn]].concat();
     for engine in Engine::ALL {
         let calls = calls.clone();
         let thread = Builder::new().stack_size(size).spawn(move || make(&calls, engine)).expect("a thread");

@@ -1,6 +1,6 @@
 //! The wrapper's methods give what the raw calls give, and its refusals have the scope paper's numbers.
 
-use belaykeel::{Applied, Engine, Event, Order, Refusal, Selection, Session, Sheet, WorkSpaces, ENTRIES};
+use belaykeel::{Engine, Order, Refusal, Selection, Session, Sheet, WorkSpaces};
 use harness::drive::{sequences, Plan};
 use harness::shapes::Size;
 use harness::wrapped::Wrapped;
@@ -20,9 +20,9 @@ fn sequences_through_the_wrapper() {
 #[test]
 fn refusals_by_number() {
     let numbers: Vec<u32> = Refusal::ALL.into_iter().map(Refusal::number).collect();
-    assert!(numbers.into_iter().eq((1..=16).chain([18, 20])));
+    assert!(numbers.into_iter().eq((1..=15).chain([18, 20])));
     assert!(Refusal::ALL.into_iter().all(|refusal| Refusal::from_number(refusal.number()) == Some(refusal)));
-    assert_eq!([0, 17, 19, 21].map(Refusal::from_number), [None; 4]);
+    assert_eq!((Refusal::from_number(0), Refusal::from_number(16)), (None, None));
     let sentences: BTreeSet<String> = Refusal::ALL.into_iter().map(|refusal| refusal.to_string()).collect();
     assert_eq!(sentences.len(), Refusal::ALL.len());
     assert!(sentences.iter().all(|sentence| sentence.ends_with('.')));
@@ -66,23 +66,4 @@ fn selections_by_name() {
         let refused = session.open(&sheet, Engine::Sac1, &Order::Rising, &selection, &mut spaces).expect_err("a refusal");
         assert!(refused.number() <= 3, "{refused:?}");
     }
-}
-
-/// An entry with a number above 255 is refused, and not taken for one below.
-#[test]
-fn decisions_as_a_list() {
-    let sheet = Sheet::write(&[2, 3, 100, 200, 300, 3, 100, 200, 300, 24, 1, 0, 1, 1, 100]).expect("a sheet");
-    let (mut session, mut spaces) = (Session::default(), WorkSpaces::new());
-    session.open(&sheet, Engine::Sac1, &Order::Rising, &Selection::All, &mut spaces).expect("the offers");
-    let mut apply = |list: &[Event]| session.apply(&sheet, Engine::Sac1, &Order::Rising, list, &mut spaces);
-    let wide = [Event { kind: 258, field: 0, position: 2 }, Event::strike(256, 2), Event::strike(0, 258), Event::choose(u32::MAX, 0)];
-    assert_eq!(apply(&wide), Ok(Applied { entries: vec![Err(Refusal::Unknown); 4], offers: None }));
-    let applied = apply(&[Event::strike(0, 2), Event::withdraw_choice(0, 1), Event::choose(1, 0), Event::withdraw_strike(0, 2)]);
-    let applied = applied.expect("what the list did");
-    assert_eq!(applied.entries, [Ok(()), Err(Refusal::NotInForce), Ok(()), Ok(())]);
-    assert_eq!(applied.offers.expect("the offers").masks(), [6, 1]);
-    assert_eq!(apply(&[]), Ok(Applied { entries: vec![], offers: None }));
-    assert_eq!(apply(&[Event::strike(0, 0); ENTRIES + 1]), Err(Refusal::NotEntries));
-    let events: Vec<(u32, u32, u32)> = session.past_events().iter().map(|event| (event.kind, event.field, event.position)).collect();
-    assert_eq!(events, [(2, 0, 2), (1, 1, 0), (4, 0, 2)]);
 }

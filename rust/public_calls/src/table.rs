@@ -63,14 +63,6 @@ macro_rules! table {
                 (offers offers_len: WrittenWords, rows rows_len: Work, memory memory_len: Work)
                 -> u32 {} refused by [6] [1 2 3 4 5] [15] [7] [9] [14];
 
-            /// Makes the decisions of a list in turn. An entry is three bytes: a code (1 choose, 2 strike, 3 withdraw choice, 4 withdraw
-            /// strike), a field and a position. Its number goes to its place of the number list.
-            List list belaykeel_list
-                (session: Session, sheet sheet_len: Sheet, engine: Number, order order_len: Bytes)
-                { list list_len: Bytes }
-                (numbers numbers_len: WrittenWords, offers offers_len: WrittenWords, rows rows_len: Work, memory memory_len: Work)
-                -> u32 {} refused by [6] [16] [1 2 3 4 5] [15] [7] [9];
-
             /// Reads a sheet's bytes to its list of numbers.
             Read read belaykeel_read
                 (sheet sheet_len: Sheet)

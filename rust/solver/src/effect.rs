@@ -3,7 +3,7 @@
 use crate::ledger::{Decision, Event, Ledger, Sort, Step};
 use crate::reading;
 use crate::session::{ledger, words_after, Words};
-use crate::stages::{prepare, prepare_list, Arguments};
+use crate::stages::{prepare, Arguments};
 use public_calls::Call;
 
 /// What there is between calls.
@@ -42,18 +42,7 @@ pub fn step(call: &Call) -> Option<Step> {
         Call::WithdrawStrike(f, v) => Some(Step::Add(Event::Withdrawn(strike(f, v)))),
         Call::Back => Some(Step::Back),
         Call::CoilOn => Some(Step::CoilOn),
-        Call::List(_) | Call::Read | Call::Write(_) => None,
-    }
-}
-
-/// The single call of an entry, which has a code, a field and a position: request 1 of 02. None where it has another code.
-fn single_call(entry: &[u8]) -> Option<Call> {
-    match *entry {
-        [1, field, position] => Some(Call::Choose(field.into(), position.into())),
-        [2, field, position] => Some(Call::Strike(field.into(), position.into())),
-        [3, field, position] => Some(Call::WithdrawChoice(field.into(), position.into())),
-        [4, field, position] => Some(Call::WithdrawStrike(field.into(), position.into())),
-        _ => None,
+        Call::Read | Call::Write(_) => None,
     }
 }
 
@@ -67,7 +56,6 @@ impl State {
     pub fn effect(&self, call: &Call, given: &Arguments) -> Effect {
         match (step(call), call) {
             (Some(step), _) => self.single(step, given),
-            (None, Call::List(list)) => self.list(list, given),
             (None, Call::Read) => self.output(reading::read(given.sheet, given.length("output"))),
             (None, Call::Write(numbers)) => self.output(reading::write(numbers, given.length("output"))),
             (None, _) => unreachable!("{call:?} takes a step"),
@@ -87,47 +75,18 @@ impl State {
         }
     }
 
-    /// The ledger that a call is judged by; none where the session holds none.
-    fn held(&self) -> Option<Ledger> {
-        self.ledger.clone().or_else(|| ledger(&self.session))
-    }
-
-    /// What there is once the session holds this ledger, which was fed by the calls alone or not.
-    fn holding(&self, next: Ledger, fed: bool) -> State {
-        let session = Box::new(words_after(&self.session, &next));
-        State { sheet: self.sheet.clone(), session, ledger: fed.then_some(next) }
-    }
-
     /// A call of one step. A refused one changes nothing.
     fn single(&self, step: Step, given: &Arguments) -> Effect {
-        let settled = prepare(self.held().as_ref(), step, given).and_then(|(prepared, ledger)| prepared.settle(&ledger, step));
+        let held = self.ledger.clone().or_else(|| ledger(&self.session));
+        let settled = prepare(held.as_ref(), step, given).and_then(|(prepared, ledger)| prepared.settle(&ledger, step));
         match settled {
             Err(number) => self.unchanged(number, vec![], vec![]),
             Ok((next, offers)) => {
                 let fed = self.ledger.is_some() || matches!(step, Step::Open(_));
-                Effect { number: 0, others: vec![], state: self.holding(next, fed), written: vec![("offers", offers)] }
+                let session = Box::new(words_after(&self.session, &next));
+                let state = State { sheet: self.sheet.clone(), session, ledger: fed.then_some(next) };
+                Effect { number: 0, others: vec![], state, written: vec![("offers", offers)] }
             }
         }
-    }
-
-    /// A list call: a number for each entry, and the offers after the latest one that is accepted. A refused entry is passed over. A call
-    /// that is refused as a whole changes nothing.
-    fn list(&self, list: &[u8], given: &Arguments) -> Effect {
-        let (prepared, mut ledger) = match prepare_list(self.held().as_ref(), list, given) {
-            Err(number) => return self.unchanged(number, vec![], vec![]),
-            Ok(prepared) => prepared,
-        };
-        let (mut numbers, mut written) = (vec![], vec![]);
-        for entry in list.chunks(3) {
-            match prepared.settle_entry(&ledger, single_call(entry).as_ref().and_then(step)) {
-                Err(number) => numbers.push(number),
-                Ok((next, offers)) => {
-                    numbers.push(0);
-                    (ledger, written) = (next, vec![("offers", offers)]);
-                }
-            }
-        }
-        written.push(("numbers", numbers));
-        Effect { number: 0, others: vec![], state: self.holding(ledger, self.ledger.is_some()), written }
     }
 }

@@ -32,8 +32,5 @@ pub const ENCODER_TOLERANCE: u32 = 2;
 /// The most events of a session.
 pub const MOST_EVENTS: usize = 64;
 
-/// The most entries of a list of decisions: request 1 of 02.
-pub const MOST_ENTRIES: usize = 64;
-
 /// The most triple rules of a sheet: request 12 of 02.
 pub const MOST_TRIPLES: u32 = 32;

@@ -1,11 +1,10 @@
 //! The causes of a refusal, a function for each stage, so that a call tries them in its order. A call is first prepared, which judges all
 //! that comes before a step and builds the network once, and then settles on steps.
 
-use crate::ledger::{Ledger, Step};
+use crate::ledger::{Event, Ledger, Step};
 use crate::network::Network;
 use crate::reading;
 use crate::sheet::Sheet;
-use crate::MOST_ENTRIES;
 use std::collections::BTreeMap;
 
 /// What a call is given besides the session and its own values.
@@ -29,11 +28,6 @@ impl Arguments<'_> {
         refused_where(6, self.length("offers") < 24 || self.length("rows") < 13_248 || self.length("memory") < 13_824)
     }
 
-    /// 6: the number list is shorter than the list's bytes divided by 3, whole part.
-    pub fn number_list(&self, list: &[u8]) -> Result<(), u32> {
-        refused_where(6, self.length("numbers") < list.len() / 3)
-    }
-
     /// 7: the engine is not 1 to 3.
     pub fn engine(&self) -> Result<(), u32> {
         refused_where(7, self.engine < 1 || self.engine > 3)
@@ -55,11 +49,6 @@ fn refused_where(number: u32, holds: bool) -> Result<(), u32> {
     }
 }
 
-/// 16: the length of a list is no multiple of three, or it has over 64 entries (request 1 of 02).
-pub fn entries(list: &[u8]) -> Result<(), u32> {
-    refused_where(16, !list.len().is_multiple_of(3) || list.len() / 3 > MOST_ENTRIES)
-}
-
 /// 15: the session is malformed. Without a ledger it is.
 pub fn session(held: Option<&Ledger>, sheet: &Sheet) -> Result<Ledger, u32> {
     held.filter(|ledger| !ledger.malformed(sheet)).cloned().ok_or(15)
@@ -70,9 +59,8 @@ pub fn selection(selected: u32, sheet: &Sheet) -> Result<Ledger, u32> {
     refused_where(18, !sheet.selects(selected)).map(|()| Ledger::default())
 }
 
-/// 7: the setting of the event that a step adds is not on the sheet.
-pub fn setting(step: Step, sheet: &Sheet) -> Result<(), u32> {
-    let Step::Add(event) = step else { return Ok(()) };
+/// 7: the setting of an event is not on the sheet.
+pub fn setting(event: Event, sheet: &Sheet) -> Result<(), u32> {
     let decision = event.decision();
     refused_where(7, !sheet.has(decision.field, decision.position))
 }
@@ -96,13 +84,6 @@ impl Prepared {
         refused_where(14, self.network.wiped_out(&offers))?;
         Ok((next, offers[..self.sheet.fields()].to_vec()))
     }
-
-    /// The same after the step of an entry; or 7, where it has another code and so no step, or its setting is not on the sheet.
-    pub fn settle_entry(&self, ledger: &Ledger, step: Option<Step>) -> Result<(Ledger, Vec<u32>), u32> {
-        let step = step.ok_or(7u32)?;
-        setting(step, &self.sheet)?;
-        self.settle(ledger, step)
-    }
 }
 
 /// What is judged before the step of a single call: 6; 1 to 5; 15, at open 18 in its place; 7; 9. Engine 2 runs at every reach and 8 is
@@ -115,20 +96,9 @@ pub fn prepare(held: Option<&Ledger>, step: Step, given: &Arguments) -> Result<(
         _ => session(held, &sheet)?,
     };
     given.engine()?;
-    setting(step, &sheet)?;
-    given.order(&sheet)?;
-    Ok((Prepared::of(sheet), ledger))
-}
-
-/// What is judged before the entries of a list call: 6; 16; 1 to 5; 15; 7, for the engine alone; 9. Gives the sheet with its network, and
-/// the ledger that the first entry is taken from.
-pub fn prepare_list(held: Option<&Ledger>, list: &[u8], given: &Arguments) -> Result<(Prepared, Ledger), u32> {
-    given.spaces()?;
-    given.number_list(list)?;
-    entries(list)?;
-    let sheet = reading::sheet(given.sheet)?;
-    let ledger = session(held, &sheet)?;
-    given.engine()?;
+    if let Step::Add(event) = step {
+        setting(event, &sheet)?;
+    }
     given.order(&sheet)?;
     Ok((Prepared::of(sheet), ledger))
 }

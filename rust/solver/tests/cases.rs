@@ -1,12 +1,17 @@
 //! The worked cases of the scope paper and of the later requests.
 
-mod plain;
-
-use plain::{plain, SHEET_D};
 use public_calls::Call;
 use solver::reading::{groups, read, sheet};
 use solver::session::{SELECTED, WORDS};
-use solver::{Effect, Network, State};
+use solver::{Arguments, Effect, Network, State};
+
+const SHEET_D: [u8; 19] =
+    [0x02, 0x03, 0x64, 0xC8, 0x01, 0xAC, 0x02, 0x03, 0x64, 0xC8, 0x01, 0xAC, 0x02, 0x18, 0x01, 0x00, 0x01, 0x01, 0x64];
+
+/// Engine 1, rising order, and spaces that are just long enough.
+fn plain<'a>(sheet: &'a [u8], order: &'a [u8]) -> Arguments<'a> {
+    Arguments { sheet, engine: 1, order, lengths: [("offers", 24), ("rows", 13_248), ("memory", 13_824)].into() }
+}
 
 /// What the calls do in turn, from a session of 0s.
 fn effects(sheet: &[u8], calls: &[Call]) -> Vec<Effect> {

@@ -5,7 +5,7 @@ use super::Method;
 use crate::task::Job;
 use crate::{Domains, MOST};
 use belaykeel::raw::{MEMORY_WORDS, OFFERS_WORDS, ROWS_WORDS, SHEET_NUMBERS};
-use belaykeel::{Event, Session, ENTRIES, EVENTS};
+use belaykeel::{Event, Session, EVENTS};
 use harness::library::{Answer, Lent, Library};
 use public_calls::Call;
 
@@ -20,68 +20,28 @@ impl Plain {
         Plain { method, job: Job { numbers: vec![0; SHEET_NUMBERS], start: [0; MOST], order: Vec::with_capacity(MOST), selected: 0 } }
     }
 
-    /// A single call: the number of the first cause against it, in the order of the scope paper.
+    /// The whole call: the number of the first cause against it, in the order of the scope paper.
     fn answer(&mut self, call: &Call, given: &mut Lent) -> Result<(), u32> {
-        if is_short(given) {
+        let session = &mut *given.session;
+        if given.offers.len() < OFFERS_WORDS || given.rows.len() < ROWS_WORDS || given.memory.len() < MEMORY_WORDS {
             return Err(6);
         }
         let sheet = read_at_once(given.sheet, &mut self.job.numbers)?;
         let selected = match *call {
             Call::Open(selected) if !selects(selected, &sheet) => return Err(18),
             Call::Open(selected) => selected,
-            _ if malformed(given.session, &sheet) => return Err(15),
-            _ => given.session.selected,
+            _ if malformed(session, &sheet) => return Err(15),
+            _ => session.selected,
         };
         let event = event(call);
-        if !is_engine(given.engine) || event.is_some_and(|event| !on_sheet(&sheet, &event)) {
+        if given.engine < 1 || given.engine > 3 || event.is_some_and(|event| !on_sheet(&sheet, &event)) {
             return Err(7);
         }
         if !is_order(given.order, sheet.fields) {
             return Err(9);
         }
-        let after = step(given.session, call, event)?;
-        self.settle(&sheet, after, event, selected, given)
-    }
-
-    /// The list call: the sheet is read once, and the method makes its tables for each entry.
-    fn list(&mut self, list: &[u8], given: &mut Lent) -> Result<(), u32> {
-        let entries = list.len() / 3;
-        if is_short(given) || given.own("numbers").words().len() < entries {
-            return Err(6);
-        }
-        if !list.len().is_multiple_of(3) || entries > ENTRIES {
-            return Err(16);
-        }
-        let sheet = read_at_once(given.sheet, &mut self.job.numbers)?;
-        if malformed(given.session, &sheet) {
-            return Err(15);
-        }
-        if !is_engine(given.engine) {
-            return Err(7);
-        }
-        if !is_order(given.order, sheet.fields) {
-            return Err(9);
-        }
-        for (place, entry) in list.chunks(3).enumerate() {
-            let event = Event { kind: entry[0].into(), field: entry[1].into(), position: entry[2].into() };
-            given.own("numbers").words()[place] = self.enter(&sheet, event, given).err().unwrap_or(0);
-        }
-        Ok(())
-    }
-
-    /// An entry of a list, where only causes of its own are left.
-    fn enter(&mut self, sheet: &Outline, event: Event, given: &mut Lent) -> Result<(), u32> {
-        if !(1..=4).contains(&event.kind) || !on_sheet(sheet, &event) {
-            return Err(7);
-        }
-        let after = added(given.session, &event)?;
-        self.settle(sheet, after, Some(event), given.session.selected, given)
-    }
-
-    /// Takes a step with these decisions and this count after it, and writes the offers; or 14.
-    fn settle(&mut self, sheet: &Outline, after: After, event: Option<Event>, selected: u32, given: &mut Lent) -> Result<(), u32> {
-        let (session, (decisions, count)) = (&mut *given.session, after);
-        self.job.start = decisions.start_set(sheet);
+        let (decisions, count) = step(session, call, event)?;
+        self.job.start = decisions.start_set(&sheet);
         self.job.selected = selected;
         self.job.order.clear();
         self.job.order.extend_from_slice(given.order);
@@ -100,21 +60,8 @@ impl Plain {
 
 impl Library for Plain {
     fn call(&mut self, call: &Call, lent: &mut Lent) -> Answer {
-        let answered = match call {
-            Call::List(list) => self.list(list, lent),
-            _ => self.answer(call, lent),
-        };
-        Answer { number: answered.err().unwrap_or(0), others: vec![] }
+        Answer { number: self.answer(call, lent).err().unwrap_or(0), others: vec![] }
     }
-}
-
-/// Whether the offers list or a work space is too short.
-fn is_short(given: &Lent) -> bool {
-    given.offers.len() < OFFERS_WORDS || given.rows.len() < ROWS_WORDS || given.memory.len() < MEMORY_WORDS
-}
-
-fn is_engine(engine: u32) -> bool {
-    (1..=3).contains(&engine)
 }
 
 /// The decisions in force: for each field a mask of choices and one of strikes.
@@ -193,27 +140,20 @@ fn is_order(order: &[u8], fields: usize) -> bool {
     order.len() == fields && order.iter().fold(0, mark) == (1 << fields) - 1
 }
 
-/// The decisions and the count of events after a step.
-type After = (Decisions, u32);
-
-/// What is after an event that is added, or 10, 11 or 12.
-fn added(session: &Session, event: &Event) -> Result<After, u32> {
-    let mut decisions = Decisions::of(session);
-    if decisions.turn(event) != adds(event) {
-        return Err(if adds(event) { 10 } else { 11 });
-    }
-    if session.count as usize == EVENTS {
-        return Err(12);
-    }
-    Ok((decisions, session.count + 1))
-}
-
-/// What is after a single call, or 10, 11, 13 or 12.
-fn step(session: &Session, call: &Call, event: Option<Event>) -> Result<After, u32> {
+/// The decisions and the count of events after a call, or 10, 11, 13 or 12.
+fn step(session: &Session, call: &Call, event: Option<Event>) -> Result<(Decisions, u32), u32> {
     let mut decisions = Decisions::of(session);
     let mut count = session.count;
     match (call, event) {
-        (_, Some(event)) => return added(session, &event),
+        (_, Some(event)) => {
+            if decisions.turn(&event) != adds(&event) {
+                return Err(if adds(&event) { 10 } else { 11 });
+            }
+            if count as usize == EVENTS {
+                return Err(12);
+            }
+            count += 1;
+        }
         (Call::Open(_), _) => (decisions, count) = (Decisions { choices: [0; MOST], strikes: [0; MOST] }, 0),
         (Call::CoilOn, _) => count = 0,
         (Call::Back, _) => {

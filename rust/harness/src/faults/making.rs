@@ -19,22 +19,6 @@ pub fn sheet(lent: &Lent) -> Sheet {
     reading::sheet(lent.sheet).expect("the sheet was read")
 }
 
-/// The places of the entries in the number list; none where the call has no list.
-pub fn numbers<'a>(call: &Call, lent: &'a mut Lent) -> &'a mut [u32] {
-    let Call::List(list) = call else { return &mut [] };
-    let words = lent.own("numbers").words();
-    let entries = words.len().min(list.len() / 3);
-    &mut words[..entries]
-}
-
-/// Whether an accepted call gave offers: a list call did where an entry was accepted.
-pub fn gave_offers(call: &Call, lent: &mut Lent) -> bool {
-    match call {
-        Call::List(_) => numbers(call, lent).contains(&0),
-        _ => call.row().has("offers"),
-    }
-}
-
 /// Makes show in the place of another call.
 pub fn show(_: &Call, lent: &mut Lent) -> Answer {
     Linked.call(&Call::Show, lent)

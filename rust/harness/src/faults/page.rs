@@ -6,7 +6,7 @@ use public_calls::Call;
 use solver::session::ledger;
 use solver::{reading, Ledger, Network, Set, Sheet};
 
-/// An accepted call with a session.
+/// An accepted call that gives offers.
 pub struct Page<'a> {
     pub call: &'a Call,
     pub engine: u32,

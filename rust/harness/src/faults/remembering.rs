@@ -1,6 +1,6 @@
 //! Faults of a library that remembers what it showed.
 
-use super::making::{gave_offers, sheet};
+use super::making::sheet;
 use super::Fault;
 use super::How::Makes;
 use crate::library::{Answer, Lent, Library};
@@ -30,7 +30,7 @@ pub struct Memory {
 /// Makes a call, lets some masks of an accepted one be altered by what was shown last, and remembers them.
 fn remembering(memory: &mut Memory, call: &Call, lent: &mut Lent, alter: fn(&mut Memory, &Call, &mut [u32])) -> Answer {
     let answered = Linked.call(call, lent);
-    if answered.number == 0 && gave_offers(call, lent) {
+    if answered.number == 0 && call.row().has("offers") {
         let n = sheet(lent).fields();
         alter(memory, call, &mut lent.offers[..n]);
         memory.shown = lent.offers[..n].to_vec();

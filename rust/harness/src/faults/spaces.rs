@@ -1,6 +1,6 @@
 //! Faults in using the spaces that calls with a session are lent.
 
-use super::making::{gave_offers, sheet};
+use super::making::sheet;
 use super::remembering::Memory;
 use super::Fault;
 use super::How::{Accepted, Makes, Number, Refused};
@@ -25,7 +25,7 @@ pub static ROWS: &[Fault] = &[
         promise: "8.4",
         says: "Words of the offers list past the fields are written.",
         how: Accepted(|_, call, lent| {
-            if gave_offers(call, lent) {
+            if call.row().has("offers") {
                 let n = sheet(lent).fields();
                 lent.offers.iter_mut().skip(n).take(1).for_each(|word| *word = 0);
             }
@@ -66,7 +66,7 @@ fn space_touched(_: &mut Memory, call: &Call, lent: &mut Lent) -> Answer {
 fn space_read(_: &mut Memory, call: &Call, lent: &mut Lent) -> Answer {
     let held = lent.memory.first().copied();
     let answered = Linked.call(call, lent);
-    if answered.number == 0 && held == Some(u32::MAX) && gave_offers(call, lent) {
+    if answered.number == 0 && held == Some(u32::MAX) {
         lent.offers[0] ^= 1;
     }
     answered

@@ -1,6 +1,6 @@
 //! Faults in the start set, and in when a call is refused as wiped out.
 
-use super::making::{accept, after, answer, gave_offers, sheet};
+use super::making::{accept, after, answer, sheet};
 use super::Fault;
 use super::How::{Instead, Number};
 use crate::library::{Answer, Lent};
@@ -53,7 +53,7 @@ pub static ROWS: &[Fault] = &[
         name: "one_offer_refused",
         promise: "9.5",
         says: "A call is refused by 14 where each field would have one offer.",
-        how: Number(|number, call, lent| if number == 0 && gave_offers(call, lent) && one_offer(lent) { 14 } else { number }),
+        how: Number(|number, call, lent| if number == 0 && call.row().has("offers") && one_offer(lent) { 14 } else { number }),
     },
 ];
 

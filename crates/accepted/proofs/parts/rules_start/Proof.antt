@@ -9,7 +9,7 @@ use Rattle.accepted.proofs.parts.rules_start.Tie as tie
 
 -- reach and number of rules stand before the end
 ends : (c : tie.After-fields-end) → c.fields-end.result + 2 ≤ length c.before.before.args.numbers.now
-ends c = rw c.fields-end.ensures (facts c.before.before.args.numbers.now c.before.before.requires).tail-end
+ends c = rw c.fields-end.ensures (facts c.before.before.args.numbers.now c.before.before.requires).tail_end
 
 pub rules-start-spec : {M : Type 1} → statement M
 rules-start-spec =

@@ -11,11 +11,10 @@ use Rattle.accepted.specs.Outline.{outline_of, outline-few}
 use Rattle.ledger.specs.Ledger.{Cause, first, no_selection, judged, is_order}
 use Rattle.session.specs.View.{view, Sized}
 use Rattle.session.specs.Steps.{stepped, StepAsks}
-use Rattle.judging.specs.Spaces.{short_by}
 use Rattle.answering.specs.Answer.{Spaces, spaces}
 use Rattle.answering.specs.Intake.{TakenIn}
 use Rattle.answering.specs.Settle.{Built}
-use Rattle.answering.specs.Answering.{Roomy, roomy, answers-short, answers-sheet, answers-judged, takes_step}
+use Rattle.answering.specs.Answering.{short_by, Roomy, roomy, answers-short, answers-sheet, answers-judged, takes_step}
 use Rattle.answering.specs.Answering.{is-order, selects, answers-wiped, answers-accepted}
 use borrow.Author.Rules.{rules}
 use Rattle.answering.proofs.answer.answer.Statement.{statement}

@@ -9,7 +9,7 @@ use Rattle.network.specs.Network.{problem_in}
 use Rattle.closing.specs.Asks.{Counted}
 use Rattle.visiting.specs.Store.{Store}
 use Rattle.engines.specs.EngineAsks.{order-low, visit-asks, visit-selected, kept-asks}
-use Rattle.engines.specs.Pass.{Passing, passing-start, passing_skip, passing-none, passing-turn, passing-end}
+use Rattle.engines.specs.Pass.{Passing, passing-start, passing_skip, passing-none, passing-turn, passing_end}
 use Rattle.engines.proofs.sac.pass.Statement.{statement}
 use Rattle.engines.proofs.sac.pass.Tie as tie
 
@@ -114,7 +114,7 @@ returns-2 c =
     let loop = c.before in
     let p = loop.before.before.before.before.before.before.requires in
     let i = loop.loop.invariant in
-    (passing-end _ _ _ _ _ _ _ _ p.1.0.visits c.loop-test.false i.1, (λ _. i.2), λ _. i.4)
+    (passing_end _ _ _ _ _ _ _ _ p.1.0.visits c.loop-test.false i.1, (λ _. i.2), λ _. i.4)
 
 pub pass_spec : {M : Type 1} → statement M
 pass_spec =

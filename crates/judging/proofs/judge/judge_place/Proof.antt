@@ -1,4 +1,4 @@
-use Rattle.ledger.specs.Causes.{first-end}
+use Rattle.ledger.specs.Causes.{first_end}
 use borrow.Author.Rules.{rules}
 use Rattle.judging.proofs.judge.judge_place.Statement.{statement}
 use Rattle.judging.proofs.judge.judge_place.Tie as tie
@@ -22,19 +22,19 @@ enum-told-3 : tie.Need-enum-told-3
 enum-told-3 c = search rules
 
 returns : tie.Need-returns
-returns c = rw c.before.call.given.1 (first-end)
+returns c = rw c.before.call.given.1 (first_end)
 
 returns-2 : tie.Need-returns-2
-returns-2 c = rw c.enum_told.given.1 (first-end)
+returns-2 c = rw c.enum_told.given.1 (first_end)
 
 returns-3 : tie.Need-returns-3
 returns-3 c = rw c.before.before.call2.given.1 c.judge-setting.ensures
 
 returns-4 : tie.Need-returns-4
-returns-4 c = rw c.enum-told2.given.1 (first-end)
+returns-4 c = rw c.enum-told2.given.1 (first_end)
 
 returns-5 : tie.Need-returns-5
-returns-5 c = rw c.enum-told3.given.1 (first-end)
+returns-5 c = rw c.enum-told3.given.1 (first_end)
 
 pub judge-place-spec : {M : Type 1} → statement M
 judge-place-spec =

@@ -1,5 +1,5 @@
 use mathlib.Core.Path.{sym, ◌∙◌}
-use Rattle.ledger.specs.Causes.{first-end, first-applies, first_next}
+use Rattle.ledger.specs.Causes.{first_end, first-applies, first_next}
 use borrow.Author.Tests.{eq-eqb, ne_eqb}
 use Rattle.limits.specs.Limits.{most_events}
 use Rattle.session.specs.View.{view, events-counted}
@@ -40,7 +40,7 @@ returns-4 c =
     let a = b.before.before in
     first_next _ _ _ (sym a.before.added-again.ensures ∙ a.if1.false)
     (first_next _ _ _ (sym b.before.withdrawn-unheld.ensures ∙ b.if2.false)
-    (first_next _ _ _ (events-counted a.before.before.before.args.session _ ∙ ne_eqb _ most_events c.if3.false) first-end))
+    (first_next _ _ _ (events-counted a.before.before.before.args.session _ ∙ ne_eqb _ most_events c.if3.false) first_end))
 
 pub judge-change-spec : {M : Type 1} → statement M
 judge-change-spec =

@@ -1,6 +1,6 @@
 -- `narrow` empties the list, then makes turns for the triple rules that wait.
 use borrow.Author.Rules.{rules}
-use Rattle.revising.specs.Over.{first-none, touched-below, first-emptied, first_waiting, narrow-then, first-end}
+use Rattle.revising.specs.Over.{first-none, touched-below, first-emptied, first_waiting, narrow-then, first_end}
 use Rattle.revising.proofs.narrow.narrow.Statement.{statement}
 use Rattle.revising.proofs.narrow.narrow.Tie as tie
 
@@ -31,7 +31,7 @@ returns-2 c =
     let pruned = branch.before in
     let p = pruned.before.before.before.before.before.before.before.requires in
     rw branch.if1.false
-    (first-end _ _ _ _ _ p.0 p.1 _ p.3 _ _ _ _ _ p.4 _ p.2 p.5 _ _ _ _ _ _
+    (first_end _ _ _ _ _ p.0 p.1 _ p.3 _ _ _ _ _ p.4 _ p.2 p.5 _ _ _ _ _ _
     (rw branch.if1.false at pruned.prune-ac.ensures) _ c.before.touched.ensures c.if2.true)
 
 revise-all-requires : tie.Need-revise-all-requires

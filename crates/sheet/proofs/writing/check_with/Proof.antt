@@ -8,7 +8,7 @@ use Rattle.grammar.specs.Grammar.{start}
 use Rattle.grammar.specs.declared.grammar.State.TheVariants.{Complete, OutOfRange, OutOfOrder}
 use Rattle.sheet.specs.Sources.{refusal_from, of_numbers, retired_from, answered}
 use Rattle.sheet.specs.Progress.{advance-length}
-use Rattle.sheet.specs.Retired.{Passing, passing-on, passing-retired, passing-stays, passing-end, retired-stays}
+use Rattle.sheet.specs.Retired.{Passing, passing-on, passing-retired, passing-stays, passing_end, retired-stays}
 use Rattle.sheet.proofs.writing.check_with.Statement.{statement}
 use Rattle.sheet.proofs.writing.check_with.Tie as tie
 
@@ -74,7 +74,7 @@ returns-4 c =
 returns-5 : tie.Need-returns-5 invariant-loop decreases-loop
 returns-5 c =
     let l = c.before.before.before.loop in
-    c.answered5.ensures ∙ ap (λ (k : ℕ). answered k l.bytes) c.before.at-end.ensures ∙ passing-end (omega arith) l.invariant.0
+    c.answered5.ensures ∙ ap (λ (k : ℕ). answered k l.bytes) c.before.at-end.ensures ∙ passing_end (omega arith) l.invariant.0
 
 pub check-with-spec : {M : Type 1} → statement M
 check-with-spec =

@@ -5,7 +5,7 @@ use lib.ListN.{length, drop, get_or, length-append}
 use Rattle.groups.specs.Groups.{encode}
 use Rattle.groups.specs.Storing.{Storing, storing_none, storing_part, storing_done}
 use Rattle.sheet.specs.Sources.{bytes_of}
-use Rattle.sheet.specs.Progress.{bytes_next, bytes-end}
+use Rattle.sheet.specs.Progress.{bytes_next, bytes_end}
 use Rattle.sheet.proofs.writing.put_bytes.Statement.{statement}
 use Rattle.sheet.proofs.writing.put_bytes.Tie as tie
 
@@ -33,7 +33,7 @@ loop-again c =
 returns : tie.Need-returns invariant-loop decreases-loop
 returns c =
     let l = c.before.loop in
-    storing_done (bytes-end c.before.before.before.before.args.numbers.now l.k (omega arith)) l.invariant.0
+    storing_done (bytes_end c.before.before.before.before.args.numbers.now l.k (omega arith)) l.invariant.0
 
 pub put-bytes-spec : {M : Type 1} → statement M
 put-bytes-spec =

@@ -1,2 +1,0 @@
--- What the contracts of `entries` cite.
-pub mod Entries

@@ -1,4 +1,0 @@
--- What the contracts of `in_turn` cite.
-pub mod Entry
-pub mod Turns
-pub mod ListCall
