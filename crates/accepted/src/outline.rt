@@ -9,7 +9,7 @@ use super::parts;
 use limits::FIELDS;
 
 // How many fields, and for each field the mask of all its positions, 0 past the sheet's fields.
-#[derive(Drop)]
+#[derive(Clone, Copy)]
 pub struct Outline {
     pub fields: usize,
     pub full: [u32; FIELDS],

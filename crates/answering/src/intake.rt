@@ -8,7 +8,7 @@ use limits::FIELDS;
 use sheet::reading::read;
 
 // The number of the sheet's refusal; where it is 0, how many numbers the sheet has and its outline.
-#[derive(Drop)]
+#[derive(Clone, Copy)]
 pub struct Intake {
     pub number: u32,
     pub length: usize,

@@ -1,6 +1,8 @@
 // Belaykeel for C and Rust: each call with the session by `&mut`. What a call answers is said in the crate `answering`. A slice is a
 // pointer and a length; a caller in C answers for it that the pointer is valid for that length and that what is written overlaps nothing
 // else that is lent.
+#![tactic(auto)]
+
 ghost use Rattle.ledger.specs.declared.Call.{Call};
 ghost use Rattle.ledger.specs.Ledger.{CHOOSE, STRIKE, WITHDRAW_CHOICE, WITHDRAW_STRIKE, decides};
 ghost use Rattle.answering.specs.Answer.{spaces, Answers};

@@ -1,5 +1,7 @@
 // Reads a sheet from standard input, opens it with engine 1, the fields in rising order and every field selected, and prints its page: a
 // line for each field with its position and the settings offered, or the number of the refusal.
+#![tactic(auto)]
+
 ghost use Rattle.std.specs.Prelude.{◌≡◌, ◌≤◌, length, take};
 ghost use Rattle.limits.specs.Limits.{most_fields, most_numbers, offers_words, text_bytes};
 ghost use Rattle.belaykeel_offers.specs.Input.{input_bytes};

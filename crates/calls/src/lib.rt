@@ -1,5 +1,7 @@
 // The calls, the session by value. Each is given the sheet's bytes, an engine, an order of the fields, if it is open the mask of the
 // selected fields, the decision that it is about if it is about one, and the spaces that it is lent.
+#![tactic(auto)]
+
 ghost use Rattle.std.specs.Prelude.{◌≡◌};
 ghost use Rattle.ledger.specs.declared.Call.TheVariants.{Open, Show, Back, CoilOn};
 ghost use Rattle.ledger.specs.Ledger.{CHOOSE, STRIKE, WITHDRAW_CHOICE, WITHDRAW_STRIKE, decides};

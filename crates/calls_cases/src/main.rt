@@ -1,6 +1,8 @@
 // Cases of the calls, through `answer`, which each call by value is. Each call has a line: its number; the first three words of the offers
 // list, all 9 before it; of the session after it the choices and the strikes of fields 0 and 1, the count of events, and the mask of the
 // selected fields.
+#![tactic(auto)]
+
 mod forged; // forged.rt: sessions that no call has made
 mod line; // line.rt: the lines
 mod refused; // refused.rt: spaces, sheets, arguments, reaches and orders

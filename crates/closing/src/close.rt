@@ -13,7 +13,7 @@ use network::hoods::all_fields;
 use revising::narrow::narrow;
 
 // What became of a set: whether a field has nothing left, and else which fields lost settings.
-#[derive(Drop)]
+#[derive(Clone, Copy)]
 pub struct Narrowed {
     pub wiped: bool,
     pub changed: u32,

@@ -1,6 +1,8 @@
 // Counter of Figure 2 of source document 004: how many settings of a field support a setting. Counter[(i, j), a] is kept in binary, and
 // its digit k is position a of the word at 120 j + 24 k + i. So the counts towards field j are five sets of settings, one for each digit,
 // and a line of the figure that is for all a, or for all (i, a), is done for all a of a field at once.
+#![tactic(auto)]
+
 ghost use Rattle.std.specs.Prelude.{◌≡◌, ◌+◌, ◌≤◌, ◌<◌, length, set};
 ghost use Rattle.limits.specs.Limits.{most_fields, counter_words};
 ghost use Rattle.counter.specs.Digits.{LoweredWord, RaisedWord, counted_word};

@@ -17,7 +17,7 @@ use network::build::Network;
 use visiting::visit::visit;
 
 // What a round left: whether the set is wiped out, and else the fields that wait.
-#[derive(Drop)]
+#[derive(Clone, Copy)]
 pub struct Waiting {
     pub wiped: bool,
     pub queue: u32,

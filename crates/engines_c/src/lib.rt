@@ -1,5 +1,7 @@
 // Finding the offers of a set, for the benchmark of the engines alone: no public call of the library, and it asks of its caller what it
 // needs. A slice is a pointer and a length. Free is what the work spaces hold afterwards, and the set where it is wiped out.
+#![tactic(auto)]
+
 ghost use Rattle.std.specs.Prelude.{◌≡◌, take};
 ghost use Rattle.consistency.specs.Neighbourhood.{neighbourhood};
 ghost use Rattle.accepted.specs.Parts.{reach_of};

@@ -12,7 +12,7 @@ use limits::{
 
 // What the next number is. `more`, `rules` and `triples` count what is still to come after it of its field or rule, of the rules and of the
 // triples; `floor` is the least that may come: one more than the setting before, or than the key of the rule or triple before.
-#[derive(Drop)]
+#[derive(Clone, Copy)]
 pub enum Expected {
     Fields,
     // field
@@ -44,7 +44,7 @@ pub enum Expected {
 }
 
 // Where the numbers before have led: a sheet of so many fields expects a number, has its last triple, or a number was refused.
-#[derive(Drop)]
+#[derive(Clone, Copy)]
 pub enum State {
     Wants(u32, Expected),
     Complete,

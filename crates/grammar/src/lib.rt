@@ -1,3 +1,5 @@
 // The grammar of a sheet: what each number leads to, and what is refused.
+#![tactic(auto)]
+
 pub mod grammar;
 pub mod triples;

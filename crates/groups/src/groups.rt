@@ -5,7 +5,7 @@ ghost use Rattle.std.proofs.lemmas.List.Edits.{sets};
 ghost use Rattle.groups.specs.Groups.{number_at, last_group, encode};
 
 // What stands at a place of the bytes: a number and the place after it, their end, or groups that are no number.
-#[derive(Drop)]
+#[derive(Clone, Copy)]
 pub enum Number {
     Value(u32, usize),
     Ended,

@@ -4,7 +4,7 @@ ghost use Rattle.groups.specs.Groups.{number_at};
 
 use super::groups::{Number, number_at};
 
-#[derive(Drop)]
+#[derive(Clone, Copy)]
 pub struct Reader<'a> {
     pub sheet: &'a [u8],
     pub place: usize,

@@ -14,7 +14,7 @@ use pruning::drop::drop;
 use pruning::support_set::support_set;
 
 // What became of the set: whether a field has nothing left, which fields lost settings, and the tail of the list.
-#[derive(Drop)]
+#[derive(Clone, Copy)]
 pub struct AfterInitialize {
     pub wiped: bool,
     pub changed: u32,

@@ -1,4 +1,6 @@
 // The limits of 01 and 02, and the numbers of the refusals, each named once. `specs/` has the same names.
+#![tactic(auto)]
+
 pub mod refusals; // refusals.rt: the numbers of the refusals
 
 // The most fields of a sheet, and the length of an array with a word for each of them.

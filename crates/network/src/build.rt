@@ -13,7 +13,7 @@ use limits::FIELDS;
 
 // Beside the tables: the number of fields, the reach, for each field the fields that a rule joins to it, and its neighbourhood; how many
 // triple rules there are.
-#[derive(Drop)]
+#[derive(Clone, Copy)]
 pub struct Network {
     pub fields: usize,
     pub reach: u32,

@@ -1,4 +1,6 @@
 // The network of a sheet: the tables of its rules and triple rules, the joined fields, and the neighbourhoods.
+#![tactic(auto)]
+
 pub mod rows; // rows.rt: the rows of the tables
 pub mod turn; // turn.rt: the rows of a rule turned round
 pub mod fill; // fill.rt: the tables, filled from an accepted list of numbers

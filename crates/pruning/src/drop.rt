@@ -10,7 +10,7 @@ use masks::{clear_bit, lowest_bit, one_bit};
 use removal_list::move_out;
 
 // What became of a set: whether a field has nothing left, which fields lost settings, and the tail of the list.
-#[derive(Drop)]
+#[derive(Clone, Copy)]
 pub struct AfterDrop {
     pub wiped: bool,
     pub lost: u32,

@@ -14,7 +14,7 @@ use masks::one_bit;
 
 // What became of the set: whether a field has nothing left, which fields lost settings, the fields towards which counts were lowered, and
 // the tail of the list.
-#[derive(Drop)]
+#[derive(Clone, Copy)]
 pub struct AfterPrune {
     pub wiped: bool,
     pub changed: u32,

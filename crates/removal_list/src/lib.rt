@@ -1,5 +1,7 @@
 // listAC of Figure 2 of source document 004: the removal list. A setting is on it by its number, 24 times its field and its position. The
 // places up to the tail hold the settings that entered, in order; no setting enters again, so there is a place for each.
+#![tactic(auto)]
+
 ghost use Rattle.std.specs.Prelude.{◌≡◌, ◌+◌, ◌≤◌, ◌<◌, length, get_or};
 ghost use Rattle.limits.specs.Limits.{most_fields, list_places};
 ghost use Rattle.masks.specs.Bits.{Within};

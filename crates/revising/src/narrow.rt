@@ -19,7 +19,7 @@ use pruning::prune_ac::{AfterPrune, prune_ac};
 
 // What a turn left: whether a field has nothing left, the fields that the revision took settings from, those that lost some after it, the
 // fields towards which counts were lowered, and the tail of the list.
-#[derive(Drop)]
+#[derive(Clone, Copy)]
 pub struct AfterTurn {
     pub wiped: bool,
     pub lost: u32,

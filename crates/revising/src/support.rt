@@ -7,14 +7,14 @@ use limits::SETTINGS;
 use masks::{clear_bit, lowest_bit, one_bit};
 
 // The positions of two fields.
-#[derive(Drop)]
+#[derive(Clone, Copy)]
 pub struct Two {
     pub second: u32,
     pub third: u32,
 }
 
 // The positions of three fields.
-#[derive(Drop)]
+#[derive(Clone, Copy)]
 pub struct Three {
     pub first: u32,
     pub second: u32,

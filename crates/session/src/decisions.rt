@@ -11,7 +11,7 @@ use masks::{clear_bit, has_bit, one_bit};
 
 // For each field the chosen and the struck positions.
 #[repr(C)]
-#[derive(Drop)]
+#[derive(Clone, Copy)]
 pub struct Decisions {
     pub choices: [u32; FIELDS],
     pub strikes: [u32; FIELDS],

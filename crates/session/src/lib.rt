@@ -1,4 +1,6 @@
 // The session: what the control room holds between calls, whether it is malformed, its start set, and the session after a call.
+#![tactic(auto)]
+
 pub mod decisions; // decisions.rt: a decision held, added, withdrawn; an event made and reversed
 pub mod form; // form.rt: whether a session is malformed
 pub mod start; // start.rt: the start set
@@ -13,7 +15,7 @@ use limits::{EVENTS, FIELDS};
 
 // The decisions in force; events, of which the first `count` have happened, the oldest first; the mask of the selected fields. No offers.
 #[repr(C)]
-#[derive(Drop)]
+#[derive(Clone, Copy)]
 pub struct Session {
     pub decisions: Decisions,
     pub events: [Event; EVENTS],
@@ -22,7 +24,7 @@ pub struct Session {
 }
 
 // What a call gives back: its number, and the session after it.
-#[derive(Drop)]
+#[derive(Clone, Copy)]
 pub struct Outcome {
     pub number: u32,
     pub session: Session,

@@ -1,4 +1,6 @@
 // Sheets that are read, written and refused: a line for each, with its number and its length.
+#![tactic(auto)]
+
 mod report; // report.rt: the line of a case
 mod triples; // triples.rt: sheets with triples
 mod largest; // largest.rt: the largest sheet

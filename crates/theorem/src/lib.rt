@@ -1,1 +1,3 @@
 // No code: what is proved of the calls, over their own contracts and from outside their crates.
+#![tactic(auto)]
+

@@ -71,7 +71,7 @@ fn remember(memory: &mut [u32], hood: &[u32; FIELDS], f: usize, v: usize, left: 
 }
 
 // What is found of a setting: it is recalled that it passes, or it was tested.
-#[derive(Drop)]
+#[derive(Clone, Copy)]
 pub enum CheckResult {
     Recalled,
     Passed,

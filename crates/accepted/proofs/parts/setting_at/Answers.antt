@@ -1,0 +1,18 @@
+use mathlib.Core.Path.{ap, ◌∙◌}
+use Prim.Native.Nat.{ℕ, ◌+◌, ◌<◌}
+use native.Mathlib.Omega.{arith}
+use lib.ListN.{length, get_or}
+use Rattle.accepted.specs.Facts.{facts}
+use Rattle.accepted.proofs.parts.setting_at.Goals as goal
+
+-- the setting stands before the end
+ends : (c : goal.Start) → let a = c.args in a.place + 1 + a.v < length a.numbers.now
+ends c =
+    let a = c.args in
+    let g = c.requires in
+    omega (arith, (facts a.numbers.now g.0.field.accepted).field_end a.f g.0.field.within, g.1, g.0.at)
+
+pub returns : goal.returns
+returns c =
+    let a = c.args in
+    c.at.ensures ∙ ap (λ (i : ℕ). get_or a.numbers.now (i + 1 + a.v) 0) c.requires.0.at

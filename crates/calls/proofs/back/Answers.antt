@@ -1,0 +1,5 @@
+-- `back` is the answer to its call.
+use Rattle.calls.proofs.back.Goals as goal
+
+pub returns : goal.returns
+returns c = c.answer.ensures

@@ -1,0 +1,5 @@
+-- `show` is the answer to its call.
+use Rattle.calls.proofs.show.Goals as goal
+
+pub returns : goal.returns
+returns c = c.answer.ensures

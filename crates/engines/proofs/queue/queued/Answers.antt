@@ -1,0 +1,64 @@
+use mathlib.Core.Path.{refl, ap, ◌∙◌}
+use Prim.Native.Nat.{ℕ}
+use Rattle.masks.specs.Bits.{bit, bit_of-zero}
+use Rattle.closing.specs.Fields.{fields-small}
+use Rattle.visiting.specs.Store.{store-start}
+use Rattle.engines.specs.Engine.{kept-wiped, begun-engine, engine-none, engine-done}
+use Rattle.engines.specs.EngineAsks.{begun-asks, kept-asks}
+use Rattle.engines.specs.Queue.{turning_start, turning_turn, turning_less}
+use Rattle.engines.proofs.queue.queued.Goals as goal
+
+pub begin-requires : goal.begin-requires
+begin-requires c = let p = c.requires in (p.0.0, p.1.1)
+
+pub returns-then-begin : goal.returns-then-begin
+returns-then-begin c = begun-engine _ _ _ _ _ (rw c.if-begin.true at c.begin.ensures.0)
+
+pub loop-queue-init : goal.loop-queue-init
+loop-queue-init c =
+    (
+      turning_start _ _ _ _ _ (c.begin.ensures.0.live c.if-begin.false),
+      store-start _ _ _ _ c.requires.1.0,
+      refl,
+      c.begin.ensures.1 c.if-begin.false,
+    )
+
+pub round-r-requires : goal.round-r-requires
+round-r-requires c =
+    let i = c.loop-queue.invariant in
+    let p = c.requires in
+    let live = begun-asks _ _ _ _ _ _ _ p.0.0 (rw c.if-begin.false at c.begin.ensures.0) in
+    ((kept-asks _ _ _ _ _ live i.0.kept.1, i.1), ((p.0.1, i.0.small), i.3))
+
+pub shape_of-memory-then-r : goal.shape_of-memory-then-r
+shape_of-memory-then-r c =
+    c.round-r.auto.1.1.0 ∙ c.loop-queue.invariant.2
+
+pub returns-then-r : goal.returns-then-r
+returns-then-r c =
+    let begun = rw c.if-begin.false at c.begin.ensures.0 in
+    engine-none _ _ _ _ _ begun (kept-wiped _ _ _ c.loop-queue.invariant.0.kept.1 (c.round-r.ensures.0.none c.if-r.true))
+
+pub loop-queue-smaller : goal.loop-queue-smaller
+loop-queue-smaller c =
+    let p = c.requires.0 in
+    turning_less _ _ _ _ _ _ _ _ _ c.loop-queue.invariant.0 (rw c.if-r.false at c.round-r.ensures.0)
+    (fields-small _ _ _ _ _ _ p.0.wired.few p.1.selected-fields) c.loop-queue-test.true
+
+pub loop-queue-preserved : goal.loop-queue-preserved
+loop-queue-preserved c =
+    let i = c.loop-queue.invariant in (
+      turning_turn _ _ _ _ _ _ _ _ _ i.0 (rw c.if-r.false at c.round-r.ensures.0),
+      c.round-r.ensures.1 c.if-r.false,
+      c.round-r.auto.1.1.0 ∙ i.2,
+      c.round-r.ensures.2 c.if-r.false,
+    )
+
+pub shape_of-memory : goal.shape_of-memory
+shape_of-memory c = c.loop-queue.invariant.2
+
+pub returns : goal.returns
+returns c =
+    let i = c.loop-queue.invariant.0 in
+    let begun = rw c.if-begin.false at c.begin.ensures.0 in
+    engine-done _ _ _ _ _ begun i.kept.1 (λ f l. i.off f l (ap (λ (x : ℕ). bit x f) c.loop-queue-test.false ∙ bit_of-zero f))

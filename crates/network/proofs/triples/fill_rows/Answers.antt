@@ -1,0 +1,84 @@
+use mathlib.Core.Path.{◌≡◌}
+use Prim.Native.Nat.{◌≤◌, ◌<◌}
+use native.Mathlib.Omega.{arith}
+use borrow.Author.Rules.{rules}
+use Rattle.limits.specs.Limits.{most_settings}
+use Rattle.accepted.specs.Parts.{count_of}
+use Rattle.network.specs.Drafts.{triple-rows-start, triple-rows-next, three-le, counts-low, at_first, at_second}
+use Rattle.network.specs.Drafts.{at-third}
+use Rattle.network.proofs.triples.fill_rows.Goals as goal
+
+pub triple_number-c-requires : goal.triple_number-c-requires
+triple_number-c-requires c = c.requires.0
+
+pub field_start-at_i-requires : goal.field_start-at_i-requires
+field_start-at_i-requires c =
+    let p = c.requires in (p.0.accepted, (three-le _ _ _ _ _ _ p.0 p.1 p.2 p.3).0)
+
+pub field_start-at_j-requires : goal.field_start-at_j-requires
+field_start-at_j-requires c =
+    let p = c.requires in (p.0.accepted, (three-le _ _ _ _ _ _ p.0 p.1 p.2 p.3).1)
+
+pub field_start-at_k-requires : goal.field_start-at_k-requires
+field_start-at_k-requires c =
+    let p = c.requires in (p.0.accepted, (three-le _ _ _ _ _ _ p.0 p.1 p.2 p.3).2)
+
+pub count_at-n-requires : goal.count_at-n-requires
+count_at-n-requires c =
+    let p = c.requires in
+    at_first _ _ _ _ _ _ p.0 p.1 p.2 p.3 _ c.field_start-at_i.ensures
+
+pub loop-v-init : goal.loop-v-init
+loop-v-init c = (search rules, omega arith, triple-rows-start _ _ _ _)
+
+-- in the loop v is a position of the first field, and the counts of the first two fields are small
+within : (t : goal.In-loop-v) → (t.loop-v.v < count_of t.args.numbers.now t.args.i) × (count_of t.args.numbers.now t.args.i ≤ most_settings)
+    × (count_of t.args.numbers.now t.args.j ≤ most_settings)
+within t =
+    let p = t.requires in
+    let few = counts-low _ _ _ _ _ _ p.0 p.1 p.2 p.3 in
+    (rw t.count_at-n.ensures at t.loop-v-test.true, few.0, few.1)
+
+pub setting_at-p-requires : goal.setting_at-p-requires
+setting_at-p-requires c =
+    let p = c.requires in
+    (at_first _ _ _ _ _ _ p.0 p.1 p.2 p.3 _ c.field_start-at_i.ensures, (within c).0)
+
+pub fill_row-requires : goal.fill_row-requires
+fill_row-requires c =
+    let p = c.requires in
+    let x = within c.before.before in
+    let y = c.loop-v.invariant.1 in
+    let z = c.loop-v.invariant.2.sized in
+    let room = p.4 in (
+      at_second _ _ _ _ _ _ p.0 p.1 p.2 p.3 _ c.field_start-at_j.ensures,
+      at-third _ _ _ _ _ _ p.0 p.1 p.2 p.3 _ c.field_start-at_k.ensures,
+      omega (arith, x.0, x.1, x.2),
+    )
+
+pub overflow_add-row : goal.overflow_add-row
+overflow_add-row c =
+    let x = within c.before.before.before.before.before in
+    let y = c.loop-v.invariant.1 in
+    let room = c.requires.4 in
+    let lent = c.well_formed.1.1.1.1.1.1.1 in
+    search rules
+
+pub loop-v-preserved : goal.loop-v-preserved
+loop-v-preserved c =
+    let p = c.requires in
+    let x = within c.before.before.before.before.before in
+    let y = c.loop-v.invariant.1 in (
+      search rules,
+      omega arith,
+      triple-rows-next _ _ _ _ _ _ _ _ _ _ _ _ _ p.1 p.2 p.3 c.triple_number-c.ensures
+          c.setting_at-p.ensures y x.0 x.2 p.5 c.loop-v.invariant.2 c.fill_row.ensures,
+    )
+
+pub shape_of-triples : goal.shape_of-triples
+shape_of-triples c = c.loop-v.invariant.2.sized
+
+pub returns : goal.returns
+returns c =
+    let e : c.loop-v.v ≡ c.count_at-n.result = omega arith in
+    rw (e, c.count_at-n.ensures) at c.loop-v.invariant.2

@@ -1,0 +1,58 @@
+use mathlib.Core.Path.{refl}
+use Prim.Native.Nat.{◌<◌}
+use Rattle.limits.specs.Limits.{most_fields}
+use Rattle.masks.specs.Bits.{bit_bound}
+use Rattle.masks.specs.Words.{clear-lt}
+use Rattle.pruning.specs.Drop.{dropping_start, dropping_end, dropping_skip, dropping_turn, dropping_none, move_asks}
+use Rattle.pruning.proofs.drop.drop.Goals as goal
+
+-- the field taken is one of those a set has a mask for
+low : (v : goal.After-lowest_bit-i) → v.lowest_bit-i.result < most_fields
+low v =
+    bit_bound most_fields _ _ v.requires.2 (v.loop-left.invariant.lefts _ v.lowest_bit-i.ensures.0.set)
+
+pub loop-left-init : goal.loop-left-init
+loop-left-init c = dropping_start _ _ _ _ _
+
+pub bounds-d-i : goal.bounds-d-i
+bounds-d-i c = low c.before.before
+
+pub bounds-none-i : goal.bounds-none-i
+bounds-none-i c = low c.before.before.before.before
+
+pub move_out-t-requires : goal.move_out-t-requires
+move_out-t-requires c =
+    let p = c.requires in
+    move_asks _ _ _ _ _ _ _ _ _ _ _ _ c.loop-left.invariant c.lowest_bit-i.ensures.0.set refl p.0 p.1 p.2 p.3 p.4
+
+pub bounds-d-i-then-gone-ne0 : goal.bounds-d-i-then-gone-ne0
+bounds-d-i-then-gone-ne0 c = low c.before.before.before.before.before.before.before.before.before.before
+
+pub returns-then-d-i-eq0 : goal.returns-then-d-i-eq0
+returns-then-d-i-eq0 c =
+    let m = c.move_out-t.ensures in
+    dropping_none _ _ _ _ _ _ _ _ _ _ _ _ c.loop-left.invariant c.lowest_bit-i.ensures.0.set refl
+    _ _ _ m.0 m.1 c.if-gone-ne0.true c.if-d-i-eq0.true _
+
+pub loop-left-smaller-then-gone-ne0 : goal.loop-left-smaller-then-gone-ne0
+loop-left-smaller-then-gone-ne0 c =
+    rw c.clear_bit-left.ensures (clear-lt _ _ c.lowest_bit-i.ensures.0.set)
+
+pub loop-left-preserved-then-gone-ne0 : goal.loop-left-preserved-then-gone-ne0
+loop-left-preserved-then-gone-ne0 c =
+    let m = c.move_out-t.ensures in
+    rw (c.clear_bit-left.ensures, c.one_bit-lost.ensures)
+    (dropping_turn _ _ _ _ _ _ _ _ _ _ _ _ c.loop-left.invariant c.lowest_bit-i.ensures.0.set refl
+    _ _ _ m.0 m.1 c.if-gone-ne0.true c.if-d-i-eq0.false)
+
+pub loop-left-smaller : goal.loop-left-smaller
+loop-left-smaller c =
+    rw c.clear_bit-left.ensures (clear-lt _ _ c.lowest_bit-i.ensures.0.set)
+
+pub loop-left-preserved : goal.loop-left-preserved
+loop-left-preserved c =
+    rw c.clear_bit-left.ensures
+    (dropping_skip _ _ _ _ _ _ _ _ _ _ _ _ c.loop-left.invariant c.lowest_bit-i.ensures.0.set refl c.if-gone-ne0.false)
+
+pub returns : goal.returns
+returns c = dropping_end _ _ _ _ _ _ _ _ _ _ c.loop-left-test.false c.loop-left.invariant
