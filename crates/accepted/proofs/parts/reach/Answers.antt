@@ -1,8 +1,15 @@
-use Prim.Native.Nat.{◌+◌, ◌≤◌}
-use lib.ListN.{length}
+use mathlib.Core.Path.{ap, ◌∙◌}
+use Prim.Native.Nat.{ℕ, ◌+◌, ◌≤◌}
+use native.Mathlib.Omega.{arith}
+use lib.ListN.{length, get_or}
 use Rattle.accepted.specs.Facts.{facts}
 use Rattle.accepted.proofs.parts.reach.Goals as goal
 
--- reach and number of rules stand before the end
-ends : (c : goal.After-fields_end) → c.fields_end.result + 2 ≤ length c.args.numbers.now
-ends c = rw c.fields_end.ensures (facts c.args.numbers.now c.requires).tail_end
+pub fields_end-requires : goal.fields_end-requires
+fields_end-requires c = c.requires
+
+pub at-requires : goal.at-requires
+at-requires c = omega (arith, (let ends' : c.fields_end.result + 2 ≤ length c.args.numbers.now = rw c.fields_end.ensures (facts c.args.numbers.now c.requires).tail_end in ends'))
+
+pub returns : goal.returns
+returns c = c.at.ensures ∙ ap (λ (i : ℕ). get_or c.args.numbers.now i 0) c.fields_end.ensures

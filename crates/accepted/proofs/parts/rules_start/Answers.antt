@@ -1,8 +1,16 @@
-use Prim.Native.Nat.{◌+◌, ◌≤◌}
+use mathlib.Core.Path.{ap, ◌∙◌, sym}
+use Prim.Native.Nat.{ℕ, ◌+◌, ◌≤◌}
+use native.Mathlib.Omega.{arith}
 use lib.ListN.{length}
+use Rattle.accepted.specs.Parts.{rule-first}
 use Rattle.accepted.specs.Facts.{facts}
 use Rattle.accepted.proofs.parts.rules_start.Goals as goal
 
--- reach and number of rules stand before the end
-ends : (c : goal.After-fields_end) → c.fields_end.result + 2 ≤ length c.args.numbers.now
-ends c = rw c.fields_end.ensures (facts c.args.numbers.now c.requires).tail_end
+pub fields_end-requires : goal.fields_end-requires
+fields_end-requires c = c.requires
+
+pub overflow_add-result : goal.overflow_add-result
+overflow_add-result c = omega (arith, (let ends' : c.fields_end.result + 2 ≤ length c.args.numbers.now = rw c.fields_end.ensures (facts c.args.numbers.now c.requires).tail_end in ends'))
+
+pub returns : goal.returns
+returns c = ap (λ (i : ℕ). i + 2) c.fields_end.ensures ∙ sym (rule-first c.args.numbers.now)

@@ -1,13 +1,17 @@
 use mathlib.Core.Path.{ap, ◌∙◌}
 use Prim.Native.Nat.{ℕ, ◌+◌, ◌<◌}
+use native.Mathlib.Omega.{arith}
 use lib.ListN.{length, get_or}
 use Rattle.accepted.specs.Facts.{triple-ends-at}
 use Rattle.accepted.proofs.parts.triple_third.Goals as goal
-
-ends : (c : goal.Start) → c.args.place + 3 < length c.args.numbers.now
-ends c = triple-ends-at c.args.numbers.now c.args.t c.args.place c.requires
 
 pub returns : goal.returns
 returns c =
     let a = c.args in
     c.at.ensures ∙ ap (λ (i : ℕ). get_or a.numbers.now (i + 2) 0) c.requires.at
+
+pub overflow_add-place : goal.overflow_add-place
+overflow_add-place c = omega (arith, (let ends' : c.args.place + 3 < length c.args.numbers.now = triple-ends-at c.args.numbers.now c.args.t c.args.place c.requires in ends'))
+
+pub at-requires : goal.at-requires
+at-requires c = omega (arith, (let ends' : c.args.place + 3 < length c.args.numbers.now = triple-ends-at c.args.numbers.now c.args.t c.args.place c.requires in ends'))

@@ -19,3 +19,18 @@ returns c =
     let e = c.rules-count.ensures in
     let q : l.k ≡ rules_of xs = omega (arith, e, l.invariant.1, c.loop-k-test.false) in
     l.invariant.0 ∙ ap (rule_start xs) q
+
+pub rules-count-requires : goal.rules-count-requires
+rules-count-requires c = c.requires
+
+pub rules_start-place-requires : goal.rules_start-place-requires
+rules_start-place-requires c = c.requires
+
+pub loop-k-init : goal.loop-k-init
+loop-k-init c = (c.rules_start-place.ensures, omega arith)
+
+pub overflow_add-k : goal.overflow_add-k
+overflow_add-k c = omega arith
+
+pub loop-k-smaller : goal.loop-k-smaller
+loop-k-smaller c = omega arith

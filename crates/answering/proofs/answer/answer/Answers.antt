@@ -38,32 +38,9 @@ taking c = c.before.before.before.before
 abbrev lent : tie.Start → Spaces
 lent s = spaces s.args.offers.now s.args.rows.now s.args.memory.now
 
--- the lengths of the session's arrays, by its type
-sized : (s : goal.Start) → Sized s.args.session
-sized s = record {
-  decisions = record { choices = search rules; strikes = search rules };
-  events = simp length-map at s.well_formed.0.1.1.1.0.1.0.1;
-}
-
--- ---- 6 does not apply
-short : (c : goal.Else-too_short) → let l = lent (start c) in false ≡ short_by (length l.offers) (length l.rows) (length l.memory)
-short c = sym c.if-too_short.false ∙ c.too_short.ensures
-
-room : (c : goal.Else-too_short) → let l = lent (start c) in Roomy (length l.offers) (length l.rows) (length l.memory)
-room c = let l = lent (start c) in roomy (length l.offers) (length l.rows) (length l.memory) (sym (short c))
-
 -- ---- 1 to 5 do not apply: the sheet is taken in
 abbrev sheet : tie.Else2 → List ℕ
 sheet c = (start (roomed c)).args.sheet.now
-
-taken : (c : goal.Else-taken-ne0) → let r = (taking c).take_in in TakenIn (sheet c) r.result r.last.1.0
-taken c = (taking c).take_in.ensures
-
-unrefused : (c : goal.Else-taken-ne0) → refusal (of_bytes (sheet c)) ≡ 0
-unrefused c = sym (taken c).number ∙ c.if-taken-ne0.false
-
-front-accepted : (c : goal.Else-taken-ne0) → let r = (taking c).take_in in Accepted (take r.result.length r.last.1.0)
-front-accepted c = rw ((taken c).front c.if-taken-ne0.false) (bytes-accepted (sheet c) (unrefused c))
 
 -- ---- the cause among 15 or 18, 7 and 9 to 13
 abbrev causes : tie.Else2 → List Cause
@@ -71,92 +48,46 @@ causes x =
     let s = start (roomed x) in
     judged (outline_of (numbers (of_bytes (sheet x)))) s.args.call s.args.engine s.args.order.now (view s.args.session)
 
-judged-by : (c : goal.After-judge-cause) → c.judge-cause.result ≡ first (causes c.before.before)
-judged-by c = rw ((taken c.before.before).outline c.if-taken-ne0.false) at c.judge-cause.ensures
-
-no-cause : (c : goal.Else-cause-ne0) → first (causes (read c)) ≡ 0
-no-cause c = sym (judged-by c.before) ∙ c.if-cause-ne0.false
-
-steps : (c : goal.Else-cause-ne0) → let s = start (roomed (read c)) in StepAsks s.args.call s.args.session
-steps c =
-    let x = read c in
-    let s = start (roomed x) in
-    takes_step s.args.call s.args.session (sized s) (sheet x) s.args.engine s.args.order.now (lent s)
-    (short (roomed x)) (unrefused x) (no-cause c)
-
-ordered : (c : goal.Else-cause-ne0) → let x = read c in
-    is_order (taking x).take_in.result.outline.fields (start (roomed x)).args.order.now ≡ true
-ordered c =
-    let x = read c in
-    let s = start (roomed x) in
-    ap (λ (o : Outline). is_order o.fields s.args.order.now) ((taken x).outline x.if2.left)
-    ∙ is-order s.args.call s.args.session (sized s) (sheet x) s.args.engine s.args.order.now (lent s)
-    (short (roomed x)) (unrefused x) (no-cause c)
-
--- the mask after the step is one that open would take
-selecting : (c : goal.Else-cause-ne0) → let x = read c in
-    let s = start (roomed x) in
-    no_selection (taking x).take_in.result.outline (stepped s.args.call s.args.session).selected ≡ false
-selecting c =
-    let x = read c in
-    let s = start (roomed x) in
-    ap (λ (o : Outline). no_selection o (stepped s.args.call s.args.session).selected) ((taken x).outline x.if2.left)
-    ∙ selects s.args.call s.args.session (sized s) (sheet x) s.args.engine s.args.order.now (lent s)
-    (short (roomed x)) (unrefused x) (no-cause c)
-
 -- ---- the outline and the network are the sheet's
 abbrev judgedAt : tie.After-build → tie.Else3
 judgedAt c = c.before.before.before
 
-built : (c : goal.After-build-net) → let x = read (judgedAt c) in
-    let r = (taking x).take_in in
-    Built (take r.result.length r.last.1.0) r.result.outline c.build-net.result c.build-net.new.1.0
-built c =
-    let x = read (judgedAt c) in
-    record {
-      accepted = front-accepted x;
-      outline = rw ((taken x).front x.if2.left) ((taken x).outline x.if2.left);
-      network = c.build-net.ensures;
-    }
-
--- the sheet's numbers are those at the front of the memory
-front-is : (x : goal.Else-taken-ne0) → let r = (taking x).take_in in take r.result.length r.last.1.0 ≡ numbers (of_bytes (sheet x))
-front-is x = (taken x).front x.if-taken-ne0.false
-
 pub returns-then-too_short : goal.returns-then-too_short
 returns-then-too_short c =
-    answers-short _ _ (sized c.before.before.before.before.before.before.before) _ _ _ (lent c) (sym c.if-too_short.true ∙ c.too_short.ensures)
+    answers-short _ _ ((let sized' : Sized c.args.session = record { decisions = record { choices = search rules; strikes = search rules }; events = simp length-map at c.well_formed.0.1.1.1.0.1.0.1;
+} in sized')) _ _ _ (lent c) (sym c.if-too_short.true ∙ c.too_short.ensures)
 
 pub take_in-taken-requires : goal.take_in-taken-requires
-take_in-taken-requires c = (room c.before).sheet-room
+take_in-taken-requires c = ((let room' : (let l = lent (start c) in Roomy (length l.offers) (length l.rows) (length l.memory)) = let l = lent (start c) in roomy (length l.offers) (length l.rows) (length l.memory) (sym ((let short' : (let l = lent (start c) in false ≡ short_by (length l.offers) (length l.rows) (length l.memory)) = sym c.if-too_short.false ∙ c.too_short.ensures in short'))) in room')).sheet-room
 
 pub returns-then-taken-ne0 : goal.returns-then-taken-ne0
 returns-then-taken-ne0 c =
-    answers-sheet _ _ (sized (start c)) _ _ _ (lent (start c)) (short c.before.before.before.before.before.before) _ _ refl c.if-taken-ne0.true
+    answers-sheet _ _ (sized (start c)) _ _ _ (lent (start c)) ((let short' : (let l = lent (start c) in false ≡ short_by (length l.offers) (length l.rows) (length l.memory)) = sym c.if-too_short.false ∙ c.too_short.ensures in short')) _ _ refl c.if-taken-ne0.true
     c.take_in-taken.ensures.number
 
 pub judge-cause-requires : goal.judge-cause-requires
 judge-cause-requires c =
-    rw ((taken c.before).outline c.if-taken-ne0.false) (outline-few (numbers (of_bytes (sheet c))) (bytes-accepted (sheet c) (unrefused c.before)))
+    rw (((let taken' : (let r = (taking c).take_in in TakenIn (sheet c) r.result r.last.1.0) = (taking c).take_in.ensures in taken')).outline c.if-taken-ne0.false) (outline-few (numbers (of_bytes (sheet c))) (bytes-accepted (sheet c) ((let unrefused' : refusal (of_bytes (sheet c)) ≡ 0 = sym ((let taken' : (let r = (taking c).take_in in TakenIn (sheet c) r.result r.last.1.0) = (taking c).take_in.ensures in taken')).number ∙ c.if-taken-ne0.false in unrefused'))))
 
 pub returns-then-cause-ne0 : goal.returns-then-cause-ne0
 returns-then-cause-ne0 c =
     let y = roomed c in
-    answers-judged _ _ (sized (start y)) _ _ _ (lent (start y)) (short y) (unrefused c.before.before.before) _ _ refl c.if-cause-ne0.true (judged-by c.before)
+    answers-judged _ _ (sized (start y)) _ _ _ (lent (start y)) ((let short' : (let l = lent (start y) in false ≡ short_by (length l.offers) (length l.rows) (length l.memory)) = sym y.if-too_short.false ∙ y.too_short.ensures in short')) ((let unrefused' : refusal (of_bytes (sheet c)) ≡ 0 = sym ((let taken' : (let r = (taking c).take_in in TakenIn (sheet c) r.result r.last.1.0) = (taking c).take_in.ensures in taken')).number ∙ c.if-taken-ne0.false in unrefused')) _ _ refl c.if-cause-ne0.true ((let judged-by' : c.judge-cause.result ≡ first (causes c.before.before) = rw (((let taken' : (let r = (taking c).take_in in TakenIn (sheet c) r.result r.last.1.0) = (taking c).take_in.ensures in taken')).outline c.if-taken-ne0.false) at c.judge-cause.ensures in judged-by'))
 
 pub slice_bounds-build-end : goal.slice_bounds-build-end
 slice_bounds-build-end c =
-    (taken c.before.before.before).ends c.if-taken-ne0.false
+    ((let taken' : (let r = (taking c).take_in in TakenIn (sheet c) r.result r.last.1.0) = (taking c).take_in.ensures in taken')).ends c.if-taken-ne0.false
 
 pub slice_bounds-build-end-2 : goal.slice_bounds-build-end-2
 slice_bounds-build-end-2 c =
-    sym (length-take-le _ _ ((taken c.before.before.before).ends c.if-taken-ne0.false))
+    sym (length-take-le _ _ (((let taken' : (let r = (taking c).take_in in TakenIn (sheet c) r.result r.last.1.0) = (taking c).take_in.ensures in taken')).ends c.if-taken-ne0.false))
 
 pub build-net-requires : goal.build-net-requires
-build-net-requires c = (front-accepted c.before.before.before.before, (room (roomed c)).rows-room)
+build-net-requires c = ((let front-accepted' : (let r = (taking c).take_in in Accepted (take r.result.length r.last.1.0)) = rw (((let taken' : (let r = (taking c).take_in in TakenIn (sheet c) r.result r.last.1.0) = (taking c).take_in.ensures in taken')).front c.if-taken-ne0.false) (bytes-accepted (sheet c) ((let unrefused' : refusal (of_bytes (sheet c)) ≡ 0 = sym ((let taken' : (let r = (taking c).take_in in TakenIn (sheet c) r.result r.last.1.0) = (taking c).take_in.ensures in taken')).number ∙ c.if-taken-ne0.false in unrefused'))) in front-accepted'), (room (roomed c)).rows-room)
 
 pub step-next-requires : goal.step-next-requires
-step-next-requires c = steps c.before.before.before.before
+step-next-requires c = (let steps' : (let s = start (roomed (read c)) in StepAsks s.args.call s.args.session) = let x = read c in let s = start (roomed x) in takes_step s.args.call s.args.session ((let sized' : Sized s.args.session = record { decisions = record { choices = search rules; strikes = search rules }; events = simp length-map at s.well_formed.0.1.1.1.0.1.0.1;
+} in sized')) (sheet x) s.args.engine s.args.order.now (lent s) (short (roomed x)) ((let unrefused' : refusal (of_bytes (sheet x)) ≡ 0 = sym ((let taken' : (let r = (taking x).take_in in TakenIn (sheet x) r.result r.last.1.0) = (taking x).take_in.ensures in taken')).number ∙ x.if-taken-ne0.false in unrefused')) ((let no-cause' : first (causes (read c)) ≡ 0 = sym ((let judged-by' : c.judge-cause.result ≡ first (causes c.before.before) = rw (((let taken' : (let r = (taking c).take_in in TakenIn (sheet c) r.result r.last.1.0) = (taking c).take_in.ensures in taken')).outline c.if-taken-ne0.false) at c.judge-cause.ensures in judged-by')) ∙ c.if-cause-ne0.false in no-cause')) in steps')
 
 pub settle_sheet-requires : goal.settle_sheet-requires
 settle_sheet-requires c =
@@ -164,11 +95,14 @@ settle_sheet-requires c =
     let x = read a in
     let r = room (roomed x) in
     record {
-      built = built c.before.before.before.before.before;
-      ends = (taken x).ends x.if2.left;
+      (let built' : (let x = read (judgedAt =) in let r = (taking x).take_in in Built (take r.result.length r.last.1.0) r.result.outline =.build-net.result =.build-net.new.1.0) = let x = read (judgedAt =) in record { accepted = (let front-accepted' : (let r = (taking x).take_in in Accepted (take r.result.length r.last.1.0)) = rw (((let taken' : (let r = (taking x).take_in in TakenIn (sheet x) r.result r.last.1.0) = (taking x).take_in.ensures in taken')).front x.if-taken-ne0.false) (bytes-accepted (sheet x) ((let unrefused' : refusal (of_bytes (sheet x)) ≡ 0 = sym ((let taken' : (let r = (taking x).take_in in TakenIn (sheet x) r.result r.last.1.0) = (taking x).take_in.ensures in taken')).number ∙ x.if-taken-ne0.false in unrefused'))) in front-accepted'); outline = rw (((let taken' : (let r = (taking x).take_in in TakenIn (sheet x) r.result r.last.1.0) = (taking x).take_in.ensures in taken')).front x.if2.left) (((let taken' : (let r = (taking x).take_in in TakenIn (sheet x) r.result r.last.1.0) = (taking x).take_in.ensures in taken')).outline x.if2.left); network = =.build-net.ensures; } in built') (let built' : (let x = read (judgedAt c) in let r = (taking x).take_in in Built (take r.result.length r.last.1.0) r.result.outline c.build-net.result c.build-net.new.1.0) = let x = read (judgedAt c) in record { accepted = (let front-accepted' : (let r = (taking x).take_in in Accepted (take r.result.length r.last.1.0)) = rw (((let taken' : (let r = (taking x).take_in in TakenIn (sheet x) r.result r.last.1.0) = (taking x).take_in.ensures in taken')).front x.if-taken-ne0.false) (bytes-accepted (sheet x) ((let unrefused' : refusal (of_bytes (sheet x)) ≡ 0 = sym ((let taken' : (let r = (taking x).take_in in TakenIn (sheet x) r.result r.last.1.0) = (taking x).take_in.ensures in taken')).number ∙ x.if-taken-ne0.false in unrefused'))) in front-accepted'); outline = rw (((let taken' : (let r = (taking x).take_in in TakenIn (sheet x) r.result r.last.1.0) = (taking x).take_in.ensures in taken')).front x.if2.left) (((let taken' : (let r = (taking x).take_in in TakenIn (sheet x) r.result r.last.1.0) = (taking x).take_in.ensures in taken')).outline x.if2.left); network = c.build-net.ensures; } in built');
+      ends = ((let taken' : (let r = (taking x).take_in in TakenIn (sheet x) r.result r.last.1.0) = (taking x).take_in.ensures in taken')).ends x.if2.left;
       enough = record {
-        ordered = ordered a;
-        selects = rw c.step-next.ensures (selecting a);
+        (let ordered' : (let x = read = in is_order (taking x).take_in.result.outline.fields (start (roomed x)).args.order.now ≡ true) = let x = read = in let s = start (roomed x) in ap (λ (o : Outline). is_order o.fields s.args.order.now) (((let taken' : (let r = (taking x).take_in in TakenIn (sheet x) r.result r.last.1.0) = (taking x).take_in.ensures in taken')).outline x.if2.left) ∙ is-order s.args.call s.args.session ((let sized' : Sized s.args.session = record { decisions = record { choices = search rules; strikes = search rules }; events = simp length-map at s.well_formed.0.1.1.1.0.1.0.1;
+} in sized')) (sheet x) s.args.engine s.args.order.now (lent s) (short (roomed x)) ((let unrefused' : refusal (of_bytes (sheet x)) ≡ 0 = sym ((let taken' : (let r = (taking x).take_in in TakenIn (sheet x) r.result r.last.1.0) = (taking x).take_in.ensures in taken')).number ∙ x.if-taken-ne0.false in unrefused')) ((let no-cause' : first (causes (read =)) ≡ 0 = sym ((let judged-by' : =.judge-cause.result ≡ first (causes =.before.before) = rw (((let taken' : (let r = (taking =).take_in in TakenIn (sheet =) r.result r.last.1.0) = (taking =).take_in.ensures in taken')).outline =.if-taken-ne0.false) at =.judge-cause.ensures in judged-by')) ∙ =.if-cause-ne0.false in no-cause')) in ordered') (let ordered' : (let x = read a in is_order (taking x).take_in.result.outline.fields (start (roomed x)).args.order.now ≡ true) = let x = read a in let s = start (roomed x) in ap (λ (o : Outline). is_order o.fields s.args.order.now) (((let taken' : (let r = (taking x).take_in in TakenIn (sheet x) r.result r.last.1.0) = (taking x).take_in.ensures in taken')).outline x.if2.left) ∙ is-order s.args.call s.args.session ((let sized' : Sized s.args.session = record { decisions = record { choices = search rules; strikes = search rules }; events = simp length-map at s.well_formed.0.1.1.1.0.1.0.1;
+} in sized')) (sheet x) s.args.engine s.args.order.now (lent s) (short (roomed x)) ((let unrefused' : refusal (of_bytes (sheet x)) ≡ 0 = sym ((let taken' : (let r = (taking x).take_in in TakenIn (sheet x) r.result r.last.1.0) = (taking x).take_in.ensures in taken')).number ∙ x.if-taken-ne0.false in unrefused')) ((let no-cause' : first (causes (read a)) ≡ 0 = sym ((let judged-by' : a.judge-cause.result ≡ first (causes a.before.before) = rw (((let taken' : (let r = (taking a).take_in in TakenIn (sheet a) r.result r.last.1.0) = (taking a).take_in.ensures in taken')).outline a.if-taken-ne0.false) at a.judge-cause.ensures in judged-by')) ∙ a.if-cause-ne0.false in no-cause')) in ordered');
+        selects = rw c.step-next.ensures ((let selecting' : (let x = read a in let s = start (roomed x) in no_selection (taking x).take_in.result.outline (stepped s.args.call s.args.session).selected ≡ false) = let x = read a in let s = start (roomed x) in ap (λ (o : Outline). no_selection o (stepped s.args.call s.args.session).selected) (((let taken' : (let r = (taking x).take_in in TakenIn (sheet x) r.result r.last.1.0) = (taking x).take_in.ensures in taken')).outline x.if2.left) ∙ selects s.args.call s.args.session ((let sized' : Sized s.args.session = record { decisions = record { choices = search rules; strikes = search rules }; events = simp length-map at s.well_formed.0.1.1.1.0.1.0.1;
+} in sized')) (sheet x) s.args.engine s.args.order.now (lent s) (short (roomed x)) ((let unrefused' : refusal (of_bytes (sheet x)) ≡ 0 = sym ((let taken' : (let r = (taking x).take_in in TakenIn (sheet x) r.result r.last.1.0) = (taking x).take_in.ensures in taken')).number ∙ x.if-taken-ne0.false in unrefused')) ((let no-cause' : first (causes (read a)) ≡ 0 = sym ((let judged-by' : a.judge-cause.result ≡ first (causes a.before.before) = rw (((let taken' : (let r = (taking a).take_in in TakenIn (sheet a) r.result r.last.1.0) = (taking a).take_in.ensures in taken')).outline a.if-taken-ne0.false) at a.judge-cause.ensures in judged-by')) ∙ a.if-cause-ne0.false in no-cause')) in selecting'));
         offers-room = r.offers-room;
         rows-room = rw c.build-net.auto.1.0 r.rows-room;
         memory-room = rw (taking x).take_in.kept.1.0 r.memory-room;
@@ -184,8 +118,8 @@ returns-then-settle_sheet c =
     let a = judgedAt c in
     let x = read a in
     let y = roomed x in
-    answers-wiped _ _ (sized (start y)) _ _ _ (lent (start y)) (short y) (unrefused x) (no-cause a) _ c.step-next.ensures _ _
-    (rw (front-is x) at c.settle_sheet.ensures) c.if-settle_sheet.true
+    answers-wiped _ _ (sized (start y)) _ _ _ (lent (start y)) ((let short' : (let l = lent (start y) in false ≡ short_by (length l.offers) (length l.rows) (length l.memory)) = sym y.if-too_short.false ∙ y.too_short.ensures in short')) ((let unrefused' : refusal (of_bytes (sheet x)) ≡ 0 = sym ((let taken' : (let r = (taking x).take_in in TakenIn (sheet x) r.result r.last.1.0) = (taking x).take_in.ensures in taken')).number ∙ x.if-taken-ne0.false in unrefused')) ((let no-cause' : first (causes (read a)) ≡ 0 = sym ((let judged-by' : a.judge-cause.result ≡ first (causes a.before.before) = rw (((let taken' : (let r = (taking a).take_in in TakenIn (sheet a) r.result r.last.1.0) = (taking a).take_in.ensures in taken')).outline a.if-taken-ne0.false) at a.judge-cause.ensures in judged-by')) ∙ a.if-cause-ne0.false in no-cause')) _ c.step-next.ensures _ _
+    (rw ((let front-is' : (let r = (taking x).take_in in take r.result.length r.last.1.0 ≡ numbers (of_bytes (sheet x))) = ((let taken' : (let r = (taking x).take_in in TakenIn (sheet x) r.result r.last.1.0) = (taking x).take_in.ensures in taken')).front x.if-taken-ne0.false in front-is')) at c.settle_sheet.ensures) c.if-settle_sheet.true
 
 pub shape_of-memory : goal.shape_of-memory
 shape_of-memory c =
@@ -196,5 +130,5 @@ returns c =
     let a = judgedAt c in
     let x = read a in
     let y = roomed x in
-    answers-accepted _ _ (sized (start y)) _ _ _ (lent (start y)) (short y) (unrefused x) (no-cause a) _ c.step-next.ensures _ _
-    (rw (front-is x) at c.settle_sheet.ensures) c.if-settle_sheet.false
+    answers-accepted _ _ (sized (start y)) _ _ _ (lent (start y)) ((let short' : (let l = lent (start y) in false ≡ short_by (length l.offers) (length l.rows) (length l.memory)) = sym y.if-too_short.false ∙ y.too_short.ensures in short')) ((let unrefused' : refusal (of_bytes (sheet x)) ≡ 0 = sym ((let taken' : (let r = (taking x).take_in in TakenIn (sheet x) r.result r.last.1.0) = (taking x).take_in.ensures in taken')).number ∙ x.if-taken-ne0.false in unrefused')) ((let no-cause' : first (causes (read a)) ≡ 0 = sym ((let judged-by' : a.judge-cause.result ≡ first (causes a.before.before) = rw (((let taken' : (let r = (taking a).take_in in TakenIn (sheet a) r.result r.last.1.0) = (taking a).take_in.ensures in taken')).outline a.if-taken-ne0.false) at a.judge-cause.ensures in judged-by')) ∙ a.if-cause-ne0.false in no-cause')) _ c.step-next.ensures _ _
+    (rw ((let front-is' : (let r = (taking x).take_in in take r.result.length r.last.1.0 ≡ numbers (of_bytes (sheet x))) = ((let taken' : (let r = (taking x).take_in in TakenIn (sheet x) r.result r.last.1.0) = (taking x).take_in.ensures in taken')).front x.if-taken-ne0.false in front-is')) at c.settle_sheet.ensures) c.if-settle_sheet.false

@@ -12,20 +12,11 @@ use Rattle.closing.specs.Asks.{place_bound, removed_empty}
 use Rattle.closing.specs.TestAsks.{own_below, lose-asks, lose_prune_asks, lose_else, lose-recover-asks, remove-leaves}
 use Rattle.closing.proofs.test.remove.Goals as goal
 
--- the setting is one of the set
-placed : (s : goal.Start) → (s.args.f < most_fields) × (s.args.v < most_settings)
-placed s = let l = place_bound _ _ _ _ _ _ s.requires.0.0 _ _ s.requires.0.1 in (l.1, l.2)
-
--- its field keeps another one
-left : (e : goal.Else-is_empty) → let s = e.args in
-    empty (lose s.m.now s.f s.v) s.f ≡ false
-left e = rw e.lose-left.ensures at (sym e.is_empty.ensures ∙ e.if-is_empty.false)
-
 pub lose-left-requires : goal.lose-left-requires
-lose-left-requires c = let l = placed c.before.before.before.before in (l.0, omega (arith, l.1))
+lose-left-requires c = let l = (let placed' : (c.args.f < most_fields) × (c.args.v < most_settings) = let l = place_bound _ _ _ _ _ _ c.requires.0.0 _ _ c.requires.0.1 in (l.1, l.2) in placed') in (l.0, omega (arith, l.1))
 
 pub is_empty-requires : goal.is_empty-requires
-is_empty-requires c = (placed c.before.before.before.before.before).0
+is_empty-requires c = ((let placed' : (c.args.f < most_fields) × (c.args.v < most_settings) = let l = place_bound _ _ _ _ _ _ c.requires.0.0 _ _ c.requires.0.1 in (l.1, l.2) in placed')).0
 
 pub returns-then-is_empty : goal.returns-then-is_empty
 returns-then-is_empty c =
@@ -35,16 +26,16 @@ returns-then-is_empty c =
     (removed_empty _ _ _ _ _ _ s.0 _ _ s.1 e, (λ q. absurd (true≢false q)), (0, moved_none _ _ _))
 
 pub offset_bounds-m-f : goal.offset_bounds-m-f
-offset_bounds-m-f c = omega (arith, (placed c.before.before.before.before.before.before.before).0)
+offset_bounds-m-f c = omega (arith, ((let placed' : (c.args.f < most_fields) × (c.args.v < most_settings) = let l = place_bound _ _ _ _ _ _ c.requires.0.0 _ _ c.requires.0.1 in (l.1, l.2) in placed')).0)
 
 pub bounds-m-f : goal.bounds-m-f
-bounds-m-f c = (placed c.before.before.before.before.before.before.before.before).0
+bounds-m-f c = ((let placed' : (c.args.f < most_fields) × (c.args.v < most_settings) = let l = place_bound _ _ _ _ _ _ c.requires.0.0 _ _ c.requires.0.1 in (l.1, l.2) in placed')).0
 
 pub offset_bounds-left-f : goal.offset_bounds-left-f
-offset_bounds-left-f c = omega (arith, (placed c.before.before.before.before.before.before.before.before.before).0)
+offset_bounds-left-f c = omega (arith, ((let placed' : (c.args.f < most_fields) × (c.args.v < most_settings) = let l = place_bound _ _ _ _ _ _ c.requires.0.0 _ _ c.requires.0.1 in (l.1, l.2) in placed')).0)
 
 pub bounds-left-f : goal.bounds-left-f
-bounds-left-f c = (placed c.before.before.before.before.before.before.before.before.before).0
+bounds-left-f c = ((let placed' : (c.args.f < most_fields) × (c.args.v < most_settings) = let l = place_bound _ _ _ _ _ _ c.requires.0.0 _ _ c.requires.0.1 in (l.1, l.2) in placed')).0
 
 pub move_out-tail-requires : goal.move_out-tail-requires
 move_out-tail-requires c =
@@ -53,7 +44,7 @@ move_out-tail-requires c =
 
 pub one_bit-own-requires : goal.one_bit-own-requires
 one_bit-own-requires c =
-    omega (arith, (placed c.before.before.before.before.before.before.before.before.before.before.before.before.before).0)
+    omega (arith, ((let placed' : (c.args.f < most_fields) × (c.args.v < most_settings) = let l = place_bound _ _ _ _ _ _ c.requires.0.0 _ _ c.requires.0.1 in (l.1, l.2) in placed')).0)
 
 pub narrow-r-requires : goal.narrow-r-requires
 unfolding all_fields problem_of
@@ -66,8 +57,8 @@ narrow-r-requires c =
       s.0.table,
       own_below _ _ _ _ _ _ s.0 _ _ _ _ p.1 _ _ s.1,
       (λ g e. e),
-      lose_prune_asks _ _ _ _ _ _ s.0 _ _ _ _ p.1 _ _ s.1 (left c.before.before.before.before.before.before.before.before.before.before.before) _ _ _ m.0 m.1,
-      lose_else _ _ _ _ _ _ s.0 _ _ _ _ p.1 _ _ s.1 (left c.before.before.before.before.before.before.before.before.before.before.before) _ _ _ m.0 m.1,
+      lose_prune_asks _ _ _ _ _ _ s.0 _ _ _ _ p.1 _ _ s.1 ((let left' : (let s = c.args in empty (lose s.m.now s.f s.v) s.f ≡ false) = rw c.lose-left.ensures at (sym c.is_empty.ensures ∙ c.if-is_empty.false) in left')) _ _ _ m.0 m.1,
+      lose_else _ _ _ _ _ _ s.0 _ _ _ _ p.1 _ _ s.1 ((let left' : (let s = c.args in empty (lose s.m.now s.f s.v) s.f ≡ false) = rw c.lose-left.ensures at (sym c.is_empty.ensures ∙ c.if-is_empty.false) in left')) _ _ _ m.0 m.1,
     )
 
 pub recover-requires : goal.recover-requires
@@ -75,7 +66,7 @@ unfolding all_fields problem_of
 recover-requires c =
     let p = c.requires in
     let m = rw c.lose-left.ensures at c.move_out-tail.ensures in
-    lose-recover-asks _ _ _ _ _ _ p.0.0 _ _ _ _ p.1 _ _ p.0.1 (left c.before.before.before.before.before.before.before.before.before.before.before.before.before) _ _ _ m.0 m.1
+    lose-recover-asks _ _ _ _ _ _ p.0.0 _ _ _ _ p.1 _ _ p.0.1 ((let left' : (let s = c.args in empty (lose s.m.now s.f s.v) s.f ≡ false) = rw c.lose-left.ensures at (sym c.is_empty.ensures ∙ c.if-is_empty.false) in left')) _ _ _ m.0 m.1
     _ _ _ _ _ _ _ (rw c.all_fields.ensures at c.narrow-r.ensures)
 
 pub returns : goal.returns
@@ -84,5 +75,5 @@ returns c =
     let p = c.requires in
     let m = rw c.lose-left.ensures at c.move_out-tail.ensures in
     rw c.one_bit-own.ensures
-    (remove-leaves _ _ _ _ _ _ p.0.0 _ _ _ _ p.1 _ _ p.0.1 (left c.before.before.before.before.before.before.before.before.before.before.before.before.before.before.before) _ _ _ m.0 m.1
+    (remove-leaves _ _ _ _ _ _ p.0.0 _ _ _ _ p.1 _ _ p.0.1 ((let left' : (let s = c.args in empty (lose s.m.now s.f s.v) s.f ≡ false) = rw c.lose-left.ensures at (sym c.is_empty.ensures ∙ c.if-is_empty.false) in left')) _ _ _ m.0 m.1
     _ _ _ _ _ _ _ (rw c.all_fields.ensures at c.narrow-r.ensures) _ c.recover.ensures)

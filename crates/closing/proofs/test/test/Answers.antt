@@ -6,24 +6,20 @@ use Rattle.closing.specs.Asks.{place_bound}
 use Rattle.closing.specs.TestAsks.{own_below, cut-asks, cut_prune_asks, cut_else, cut-recover-asks, test-leaves}
 use Rattle.closing.proofs.test.test.Goals as goal
 
--- the setting is one of the set
-placed : (s : goal.Start) → (s.args.f < most_fields) × (s.args.v < most_settings)
-placed s = let l = place_bound _ _ _ _ _ _ s.requires.0.0 _ _ s.requires.0.1 in (l.1, l.2)
-
 pub cut-cut-requires : goal.cut-cut-requires
-cut-cut-requires c = let l = placed c.before.before.before.before in (l.0, omega (arith, l.1))
+cut-cut-requires c = let l = (let placed' : (c.args.f < most_fields) × (c.args.v < most_settings) = let l = place_bound _ _ _ _ _ _ c.requires.0.0 _ _ c.requires.0.1 in (l.1, l.2) in placed') in (l.0, omega (arith, l.1))
 
 pub offset_bounds-t-f : goal.offset_bounds-t-f
-offset_bounds-t-f c = omega (arith, (placed c.before.before.before.before.before).0)
+offset_bounds-t-f c = omega (arith, ((let placed' : (c.args.f < most_fields) × (c.args.v < most_settings) = let l = place_bound _ _ _ _ _ _ c.requires.0.0 _ _ c.requires.0.1 in (l.1, l.2) in placed')).0)
 
 pub bounds-t-f : goal.bounds-t-f
-bounds-t-f c = (placed c.before.before.before.before.before.before).0
+bounds-t-f c = ((let placed' : (c.args.f < most_fields) × (c.args.v < most_settings) = let l = place_bound _ _ _ _ _ _ c.requires.0.0 _ _ c.requires.0.1 in (l.1, l.2) in placed')).0
 
 pub offset_bounds-cut-f : goal.offset_bounds-cut-f
-offset_bounds-cut-f c = omega (arith, (placed c.before.before.before.before.before.before.before).0)
+offset_bounds-cut-f c = omega (arith, ((let placed' : (c.args.f < most_fields) × (c.args.v < most_settings) = let l = place_bound _ _ _ _ _ _ c.requires.0.0 _ _ c.requires.0.1 in (l.1, l.2) in placed')).0)
 
 pub bounds-cut-f : goal.bounds-cut-f
-bounds-cut-f c = (placed c.before.before.before.before.before.before.before).0
+bounds-cut-f c = ((let placed' : (c.args.f < most_fields) × (c.args.v < most_settings) = let l = place_bound _ _ _ _ _ _ c.requires.0.0 _ _ c.requires.0.1 in (l.1, l.2) in placed')).0
 
 pub move_out-tail-requires : goal.move_out-tail-requires
 move_out-tail-requires c =
@@ -32,7 +28,7 @@ move_out-tail-requires c =
 
 pub one_bit-requires : goal.one_bit-requires
 one_bit-requires c =
-    omega (arith, (placed c.before.before.before.before.before.before.before.before.before.before.before.before).0)
+    omega (arith, ((let placed' : (c.args.f < most_fields) × (c.args.v < most_settings) = let l = place_bound _ _ _ _ _ _ c.requires.0.0 _ _ c.requires.0.1 in (l.1, l.2) in placed')).0)
 
 pub narrow-p-requires : goal.narrow-p-requires
 narrow-p-requires c =

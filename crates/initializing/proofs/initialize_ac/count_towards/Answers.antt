@@ -8,11 +8,6 @@ use Rattle.pruning.specs.SupportSet.{set-has}
 use Rattle.initializing.specs.Count.{made-start, made-turn}
 use Rattle.initializing.proofs.initialize_ac.count_towards.Goals as goal
 
--- the setting taken has a bit in a mask
-low : (v : goal.After-lowest_bit-b) → v.lowest_bit-b.result < most_settings
-low v =
-    bit_bound most_settings _ _ v.requires.1 (v.loop-left.invariant.1.lefts _ v.lowest_bit-b.ensures.0.set)
-
 pub loop-left-init : goal.loop-left-init
 loop-left-init c = (c.requires.3, made-start _ _ _ _ _)
 
@@ -20,10 +15,10 @@ pub overflow_mul-j : goal.overflow_mul-j
 overflow_mul-j c = let j = c.requires.0 in omega arith
 
 pub overflow_add-j : goal.overflow_add-j
-overflow_add-j c = let b = low c.before in let j = c.requires.0 in omega arith
+overflow_add-j c = let b = (let low' : c.lowest_bit-b.result < most_settings = bit_bound most_settings _ _ c.requires.1 (c.loop-left.invariant.1.lefts _ c.lowest_bit-b.ensures.0.set) in low') in let j = c.requires.0 in omega arith
 
 pub support_set-s-requires : goal.support_set-s-requires
-support_set-s-requires c = let b = low c.before in let j = c.requires.0 in omega arith
+support_set-s-requires c = let b = (let low' : c.lowest_bit-b.result < most_settings = bit_bound most_settings _ _ c.requires.1 (c.loop-left.invariant.1.lefts _ c.lowest_bit-b.ensures.0.set) in low') in let j = c.requires.0 in omega arith
 
 pub raise-requires : goal.raise-requires
 raise-requires c =
@@ -40,7 +35,7 @@ loop-left-preserved c =
     let r = c.raise.ensures in
     let w = c.requires.2 in (
       r.sized ∙ i.0,
-      rw c.clear_bit-left.ensures (made-turn _ _ _ _ _ _ _ _ i.1 c.lowest_bit-b.ensures.0.set (low c.before.before.before.before.before) _
+      rw c.clear_bit-left.ensures (made-turn _ _ _ _ _ _ _ _ i.1 c.lowest_bit-b.ensures.0.set ((let low' : c.lowest_bit-b.result < most_settings = bit_bound most_settings _ _ c.requires.1 (c.loop-left.invariant.1.lefts _ c.lowest_bit-b.ensures.0.set) in low')) _
           (λ i a l. set-has _ _ _ _ c.support_set-s.ensures i a (omega arith)) _ r),
     )
 

@@ -7,17 +7,11 @@ use Rattle.initializing.specs.InitializeTurn.{initialize_start, initialize_end, 
 use Rattle.initializing.specs.InitializeTurn.{initialize_drop-asks, initialized_none, initialized_next}
 use Rattle.initializing.proofs.initialize_ac.initialize_ac.Goals as goal
 
--- the field of a turn is one of those a set has a mask for
-low : (t : goal.In-loop-j) → t.loop-j.j < most_fields
-low t =
-    let p = t.requires in
-    (record-asks _ _ _ _ p.0 _ _ _ _ p.1 _ _ _ _ _ _ _ t.loop-j.invariant.1 t.loop-j-test.true).0
-
 pub loop-j-init : goal.loop-j-init
 loop-j-init c = let p = c.requires in (search rules, initialize_start _ _ _ _ p.0 _ _ _ _ p.1)
 
 pub bounds-joined-j : goal.bounds-joined-j
-bounds-joined-j c = low c.before
+bounds-joined-j c = (let low' : c.loop-j.j < most_fields = let p = c.requires in (record-asks _ _ _ _ p.0 _ _ _ _ p.1 _ _ _ _ _ _ _ c.loop-j.invariant.1 c.loop-j-test.true).0 in low')
 
 pub record-requires : goal.record-requires
 record-requires c =
@@ -25,7 +19,7 @@ record-requires c =
     record-asks _ _ _ _ p.0 _ _ _ _ p.1 _ _ _ _ _ _ _ c.loop-j.invariant.1 c.loop-j-test.true
 
 pub bounds-d-j : goal.bounds-d-j
-bounds-d-j c = low c.before.before.before.before.before.before
+bounds-d-j c = (let low' : c.loop-j.j < most_fields = let p = c.requires in (record-asks _ _ _ _ p.0 _ _ _ _ p.1 _ _ _ _ _ _ _ c.loop-j.invariant.1 c.loop-j-test.true).0 in low')
 
 pub count_towards-requires : goal.count_towards-requires
 count_towards-requires c =
@@ -52,7 +46,7 @@ returns-then-r c =
 
 pub overflow_add-j : goal.overflow_add-j
 overflow_add-j c =
-    omega (arith, low c.before.before.before.before.before.before.before.before.before.before.before.before.before.before.before)
+    omega (arith, (let low' : c.loop-j.j < most_fields = let p = c.requires in (record-asks _ _ _ _ p.0 _ _ _ _ p.1 _ _ _ _ _ _ _ c.loop-j.invariant.1 c.loop-j-test.true).0 in low'))
 
 pub loop-j-preserved : goal.loop-j-preserved
 loop-j-preserved c =

@@ -9,23 +9,16 @@ field_start-at_i-requires c = let p = c.requires in (p.0.accepted, (fields-low _
 pub field_start-at_j-requires : goal.field_start-at_j-requires
 field_start-at_j-requires c = let p = c.requires in (p.0.accepted, (fields-low _ _ _ _ _ p.0 p.1 p.2).3)
 
--- where the rule's fields are
-found : (t : goal.After-field_start-at_j) → let a = t.args in
-    RuleFields a.numbers.now a.r a.place a.i a.j t.field_start-at_i.result t.field_start-at_j.result
-found t =
-    let p = t.requires in
-    record { rule = p.0; first = p.1; second = p.2; start_i = t.field_start-at_i.ensures; start_j = t.field_start-at_j.ensures }
-
 pub count_at-n-requires : goal.count_at-n-requires
-count_at-n-requires c = field-i _ _ _ _ _ _ _ (found c)
+count_at-n-requires c = field-i _ _ _ _ _ _ _ ((let found' : (let a = c.args in RuleFields a.numbers.now a.r a.place a.i a.j c.field_start-at_i.result c.field_start-at_j.result) = let p = c.requires in record { rule = p.0; first = p.1; second = p.2; start_i = c.field_start-at_i.ensures; start_j = c.field_start-at_j.ensures } in found'))
 
 pub count_at-wide-requires : goal.count_at-wide-requires
-count_at-wide-requires c = field-j _ _ _ _ _ _ _ (found c.before)
+count_at-wide-requires c = field-j _ _ _ _ _ _ _ ((let found' : (let a = c.args in RuleFields a.numbers.now a.r a.place a.i a.j c.field_start-at_i.result c.field_start-at_j.result) = let p = c.requires in record { rule = p.0; first = p.1; second = p.2; start_i = c.field_start-at_i.ensures; start_j = c.field_start-at_j.ensures } in found'))
 
 pub turn-turned-requires : goal.turn-turned-requires
 turn-turned-requires c =
     rw (c.count_at-wide.ensures, c.count_at-n.ensures)
-    (rows-rows _ _ _ _ _ _ _ (found c.before.before.before.before) _ (rw c.count_at-n.ensures at c.rows_of_rule-forward.ensures))
+    (rows-rows _ _ _ _ _ _ _ ((let found' : (let a = c.args in RuleFields a.numbers.now a.r a.place a.i a.j c.field_start-at_i.result c.field_start-at_j.result) = let p = c.requires in record { rule = p.0; first = p.1; second = p.2; start_i = c.field_start-at_i.ensures; start_j = c.field_start-at_j.ensures } in found')) _ (rw c.count_at-n.ensures at c.rows_of_rule-forward.ensures))
 
 pub slot-base-requires : goal.slot-base-requires
 slot-base-requires c =
@@ -36,5 +29,5 @@ slot-base-requires c =
 pub returns : goal.returns
 returns c =
     let e = c.count_at-n.ensures in
-    rule-stored _ _ _ _ _ _ _ (found c.before.before.before.before.before.before.before.before.before.before.before.before.before.before.before.before) _ (rw e at c.rows_of_rule-forward.ensures) _ _ _ _ _ c.slot-base.ensures.0
+    rule-stored _ _ _ _ _ _ _ ((let found' : (let a = c.args in RuleFields a.numbers.now a.r a.place a.i a.j c.field_start-at_i.result c.field_start-at_j.result) = let p = c.requires in record { rule = p.0; first = p.1; second = p.2; start_i = c.field_start-at_i.ensures; start_j = c.field_start-at_j.ensures } in found')) _ (rw e at c.rows_of_rule-forward.ensures) _ _ _ _ _ c.slot-base.ensures.0
     c.slot-base.ensures.1 (rw e at c.turn-turned.ensures) c.store.ensures c.store-2.ensures

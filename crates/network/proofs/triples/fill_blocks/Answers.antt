@@ -15,20 +15,11 @@ overflow_add-place c = let p = c.requires in let k = start-room _ _ p.0 p.1 in s
 pub loop-t-init : goal.loop-t-init
 loop-t-init c = let p = c.requires in (next_start _ _ p.0 p.1, omega arith, blocks_start _ _ p.4)
 
--- there is room for triple rule t
-room : (t : goal.In-loop-t) → t.loop-t.base + triple_words ≤ length t.loop-t.triples
-room t =
-    let l = t.loop-t-test.true in
-    let e = t.loop-t.invariant.1 in
-    let z = t.loop-t.invariant.2.sized in
-    let p = t.requires.3 in
-    omega arith
-
 pub fill_triple-requires : goal.fill_triple-requires
 fill_triple-requires c =
     let i = c.loop-t.invariant in (
       next-at _ _ _ _ i.0 c.requires.2 c.loop-t-test.true,
-      room c.before,
+      (let room' : c.loop-t.base + triple_words ≤ length c.loop-t.triples = let l = c.loop-t-test.true in let e = c.loop-t.invariant.1 in let z = c.loop-t.invariant.2.sized in let p = c.requires.3 in omega arith in room'),
       (let z : ZerosFrom c.loop-t.base c.loop-t.triples = rw i.1 i.2.rest in z),
     )
 
@@ -39,7 +30,7 @@ overflow_add-place-in-loop-t c =
 
 pub overflow_add-base : goal.overflow_add-base
 overflow_add-base c =
-    let k = room c.before.before.before.before in
+    let k = (let room' : c.loop-t.base + triple_words ≤ length c.loop-t.triples = let l = c.loop-t-test.true in let e = c.loop-t.invariant.1 in let z = c.loop-t.invariant.2.sized in let p = c.requires.3 in omega arith in room') in
     let z = c.loop-t.invariant.2.sized in
     search rules
 

@@ -31,23 +31,15 @@ count_at-n-requires c =
 pub loop-v-init : goal.loop-v-init
 loop-v-init c = (search rules, omega arith, triple-rows-start _ _ _ _)
 
--- in the loop v is a position of the first field, and the counts of the first two fields are small
-within : (t : goal.In-loop-v) → (t.loop-v.v < count_of t.args.numbers.now t.args.i) × (count_of t.args.numbers.now t.args.i ≤ most_settings)
-    × (count_of t.args.numbers.now t.args.j ≤ most_settings)
-within t =
-    let p = t.requires in
-    let few = counts-low _ _ _ _ _ _ p.0 p.1 p.2 p.3 in
-    (rw t.count_at-n.ensures at t.loop-v-test.true, few.0, few.1)
-
 pub setting_at-p-requires : goal.setting_at-p-requires
 setting_at-p-requires c =
     let p = c.requires in
-    (at_first _ _ _ _ _ _ p.0 p.1 p.2 p.3 _ c.field_start-at_i.ensures, (within c).0)
+    (at_first _ _ _ _ _ _ p.0 p.1 p.2 p.3 _ c.field_start-at_i.ensures, ((let within' : ((c.loop-v.v < count_of c.args.numbers.now c.args.i) × (count_of c.args.numbers.now c.args.i ≤ most_settings) × (count_of c.args.numbers.now c.args.j ≤ most_settings)) = let p = c.requires in let few = counts-low _ _ _ _ _ _ p.0 p.1 p.2 p.3 in (rw c.count_at-n.ensures at c.loop-v-test.true, few.0, few.1) in within')).0)
 
 pub fill_row-requires : goal.fill_row-requires
 fill_row-requires c =
     let p = c.requires in
-    let x = within c.before.before in
+    let x = (let within' : ((c.loop-v.v < count_of c.args.numbers.now c.args.i) × (count_of c.args.numbers.now c.args.i ≤ most_settings) × (count_of c.args.numbers.now c.args.j ≤ most_settings)) = let p = c.requires in let few = counts-low _ _ _ _ _ _ p.0 p.1 p.2 p.3 in (rw c.count_at-n.ensures at c.loop-v-test.true, few.0, few.1) in within') in
     let y = c.loop-v.invariant.1 in
     let z = c.loop-v.invariant.2.sized in
     let room = p.4 in (
@@ -58,7 +50,7 @@ fill_row-requires c =
 
 pub overflow_add-row : goal.overflow_add-row
 overflow_add-row c =
-    let x = within c.before.before.before.before.before in
+    let x = (let within' : ((c.loop-v.v < count_of c.args.numbers.now c.args.i) × (count_of c.args.numbers.now c.args.i ≤ most_settings) × (count_of c.args.numbers.now c.args.j ≤ most_settings)) = let p = c.requires in let few = counts-low _ _ _ _ _ _ p.0 p.1 p.2 p.3 in (rw c.count_at-n.ensures at c.loop-v-test.true, few.0, few.1) in within') in
     let y = c.loop-v.invariant.1 in
     let room = c.requires.4 in
     let lent = c.well_formed.1.1.1.1.1.1.1 in
@@ -67,7 +59,7 @@ overflow_add-row c =
 pub loop-v-preserved : goal.loop-v-preserved
 loop-v-preserved c =
     let p = c.requires in
-    let x = within c.before.before.before.before.before in
+    let x = (let within' : ((c.loop-v.v < count_of c.args.numbers.now c.args.i) × (count_of c.args.numbers.now c.args.i ≤ most_settings) × (count_of c.args.numbers.now c.args.j ≤ most_settings)) = let p = c.requires in let few = counts-low _ _ _ _ _ _ p.0 p.1 p.2 p.3 in (rw c.count_at-n.ensures at c.loop-v-test.true, few.0, few.1) in within') in
     let y = c.loop-v.invariant.1 in (
       search rules,
       omega arith,

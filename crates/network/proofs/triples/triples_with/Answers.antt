@@ -15,36 +15,23 @@ overflow_add-place c = let p = c.requires in let k = start-room _ _ p.0 p.1 in s
 pub loop-t-init : goal.loop-t-init
 loop-t-init c = let p = c.requires in (next_start _ _ p.0 p.1, have-start _)
 
--- triple rule t of the sheet
-here : (t : goal.In-loop-t)
-    → TripleAt t.args.numbers.now t.loop-t.t t.loop-t.place
-here t = next-at _ _ _ _ t.loop-t.invariant.0 t.requires.2 t.loop-t-test.true
-
 pub triple_first-i-requires : goal.triple_first-i-requires
-triple_first-i-requires c = here c
+triple_first-i-requires c = (let here' : TripleAt c.args.numbers.now c.loop-t.t c.loop-t.place = next-at _ _ _ _ c.loop-t.invariant.0 c.requires.2 c.loop-t-test.true in here')
 
 pub triple_second-j-requires : goal.triple_second-j-requires
-triple_second-j-requires c = here c.before
+triple_second-j-requires c = (let here' : TripleAt c.args.numbers.now c.loop-t.t c.loop-t.place = next-at _ _ _ _ c.loop-t.invariant.0 c.requires.2 c.loop-t-test.true in here')
 
 pub triple_third-k-requires : goal.triple_third-k-requires
-triple_third-k-requires c = here c.before.before
-
--- its fields
-low : (t : goal.After-triple_third-k)
-    → (t.triple_first-i.result < most_fields) × (t.triple_second-j.result < most_fields)
-    × (t.triple_third-k.result < most_fields)
-low t =
-    triple-fields _ _ _ _ _ _ (here t.before.before.before) t.triple_first-i.ensures t.triple_second-j.ensures
-    t.triple_third-k.ensures
+triple_third-k-requires c = (let here' : TripleAt c.args.numbers.now c.loop-t.t c.loop-t.place = next-at _ _ _ _ c.loop-t.invariant.0 c.requires.2 c.loop-t-test.true in here')
 
 pub one_bit-requires : goal.one_bit-requires
 one_bit-requires c =
-    let k = triple-low _ _ _ (here c.before.before.before.before) in
+    let k = triple-low _ _ _ ((let here' : TripleAt c.args.numbers.now c.loop-t.t c.loop-t.place = next-at _ _ _ _ c.loop-t.invariant.0 c.requires.2 c.loop-t-test.true in here')) in
     omega arith
 
 pub add_to_three-requires : goal.add_to_three-requires
 add_to_three-requires c =
-    let x = low c.before.before in
+    let x = (let low' : ((c.triple_first-i.result < most_fields) × (c.triple_second-j.result < most_fields) × (c.triple_third-k.result < most_fields)) = triple-fields _ _ _ _ _ _ ((let here' : TripleAt c.args.numbers.now c.loop-t.t c.loop-t.place = next-at _ _ _ _ c.loop-t.invariant.0 c.requires.2 c.loop-t-test.true in here')) c.triple_first-i.ensures c.triple_second-j.ensures c.triple_third-k.ensures in low') in
     let l = c.loop-t.invariant.1.long in
     search rules
 

@@ -6,19 +6,14 @@ use Rattle.masks.specs.Words.{clear-lt}
 use Rattle.pruning.specs.Drop.{dropping_start, dropping_end, dropping_skip, dropping_turn, dropping_none, move_asks}
 use Rattle.pruning.proofs.drop.drop.Goals as goal
 
--- the field taken is one of those a set has a mask for
-low : (v : goal.After-lowest_bit-i) → v.lowest_bit-i.result < most_fields
-low v =
-    bit_bound most_fields _ _ v.requires.2 (v.loop-left.invariant.lefts _ v.lowest_bit-i.ensures.0.set)
-
 pub loop-left-init : goal.loop-left-init
 loop-left-init c = dropping_start _ _ _ _ _
 
 pub bounds-d-i : goal.bounds-d-i
-bounds-d-i c = low c.before.before
+bounds-d-i c = (let low' : c.lowest_bit-i.result < most_fields = bit_bound most_fields _ _ c.requires.2 (c.loop-left.invariant.lefts _ c.lowest_bit-i.ensures.0.set) in low')
 
 pub bounds-none-i : goal.bounds-none-i
-bounds-none-i c = low c.before.before.before.before
+bounds-none-i c = (let low' : c.lowest_bit-i.result < most_fields = bit_bound most_fields _ _ c.requires.2 (c.loop-left.invariant.lefts _ c.lowest_bit-i.ensures.0.set) in low')
 
 pub move_out-t-requires : goal.move_out-t-requires
 move_out-t-requires c =
@@ -26,7 +21,7 @@ move_out-t-requires c =
     move_asks _ _ _ _ _ _ _ _ _ _ _ _ c.loop-left.invariant c.lowest_bit-i.ensures.0.set refl p.0 p.1 p.2 p.3 p.4
 
 pub bounds-d-i-then-gone-ne0 : goal.bounds-d-i-then-gone-ne0
-bounds-d-i-then-gone-ne0 c = low c.before.before.before.before.before.before.before.before.before.before
+bounds-d-i-then-gone-ne0 c = (let low' : c.lowest_bit-i.result < most_fields = bit_bound most_fields _ _ c.requires.2 (c.loop-left.invariant.lefts _ c.lowest_bit-i.ensures.0.set) in low')
 
 pub returns-then-d-i-eq0 : goal.returns-then-d-i-eq0
 returns-then-d-i-eq0 c =

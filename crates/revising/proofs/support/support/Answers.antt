@@ -7,23 +7,18 @@ use Rattle.masks.specs.Words.{clear-lt, clear_within}
 use Rattle.revising.specs.Support.{supported3_start, supported3_none, supported3_some}
 use Rattle.revising.proofs.support.support.Goals as goal
 
--- the position taken is one that a field has
-low : (v : goal.After-lowest_bit-p) → v.lowest_bit-p.result < most_settings
-low v =
-    bit_bound most_settings _ _ v.requires.0 (v.loop-left.invariant.0 _ v.lowest_bit-p.ensures.0.set)
-
 pub loop-left-init : goal.loop-left-init
 loop-left-init c = (λ v e. e, supported3_start _ _ _ _ _)
 
 pub overflow_mul-p : goal.overflow_mul-p
-overflow_mul-p c = let l = low c.before in search rules
+overflow_mul-p c = let l = (let low' : c.lowest_bit-p.result < most_settings = bit_bound most_settings _ _ c.requires.0 (c.loop-left.invariant.0 _ c.lowest_bit-p.ensures.0.set) in low') in search rules
 
 pub overflow_add-rows : goal.overflow_add-rows
-overflow_add-rows c = let l = low c.before in search rules
+overflow_add-rows c = let l = (let low' : c.lowest_bit-p.result < most_settings = bit_bound most_settings _ _ c.requires.0 (c.loop-left.invariant.0 _ c.lowest_bit-p.ensures.0.set) in low') in search rules
 
 pub beside-two-requires : goal.beside-two-requires
 beside-two-requires c =
-    let l = low c.before in
+    let l = (let low' : c.lowest_bit-p.result < most_settings = bit_bound most_settings _ _ c.requires.0 (c.loop-left.invariant.0 _ c.lowest_bit-p.ensures.0.set) in low') in
     let p = c.requires in
     let long = p.2 in
     (p.1, omega arith)

@@ -5,11 +5,6 @@ use Rattle.masks.specs.Words.{clear-lt, clear_within}
 use Rattle.revising.specs.Table.{touching_none, touching_start, touching_turn}
 use Rattle.revising.proofs.table.touched.Goals as goal
 
--- the field taken is one of the sheet
-low : (v : goal.After-lowest_bit-f) → v.lowest_bit-f.result < v.args.n
-low v =
-    v.requires.2 _ (v.loop-left.invariant.0 _ v.lowest_bit-f.ensures.0.set)
-
 pub bounds-triples-0 : goal.bounds-triples-0
 bounds-triples-0 c = let l = c.requires.0.long in search rules
 
@@ -21,7 +16,7 @@ loop-left-init c = (λ v e. e, touching_start _ _)
 
 pub bounds-triples-f : goal.bounds-triples-f
 bounds-triples-f c =
-    let l = low c.before.before in
+    let l = (let low' : c.lowest_bit-f.result < c.args.n = c.requires.2 _ (c.loop-left.invariant.0 _ c.lowest_bit-f.ensures.0.set) in low') in
     let p = c.requires in
     let m = p.0.long in
     let f = p.1 in
@@ -37,7 +32,7 @@ loop-left-preserved c =
     let set = c.lowest_bit-f.ensures.0.set in
     rw c.clear_bit-left.ensures (
       λ v e. i.0 v (clear_within _ _ v e),
-      touching_turn _ _ _ c.requires.0 _ _ _ i.1 (i.0 _ set) (low c.before.before),
+      touching_turn _ _ _ c.requires.0 _ _ _ i.1 (i.0 _ set) ((let low' : c.lowest_bit-f.result < c.args.n = c.requires.2 _ (c.loop-left.invariant.0 _ c.lowest_bit-f.ensures.0.set) in low')),
     )
 
 pub returns : goal.returns

@@ -13,17 +13,6 @@ use Rattle.sheet.specs.Progress.{going_on, going_end, going-refused, going-stays
 use Rattle.sheet.specs.Progress.{numbers-num, numbers-none, advance-length}
 use Rattle.sheet.proofs.reading.check_with.Goals as goal
 
--- the number read, and the place after it
-found : (c : goal.In-Value-2)
-    → let l = c.loop-place in let s = c.args.sheet.now in
-    number_at s l.place ≡ Value c.number-1.given.0.0 c.number-1.given.0.1.0
-found c = sym c.read_number-number.ensures ∙ c.number-1.given.1
-
-onward : (c : goal.In-Value-2)
-    → let l = c.loop-place in let s = c.args.sheet.now in
-    (l.place < c.number-1.given.0.1.0) × (c.number-1.given.0.1.0 ≤ length s)
-onward c = let l = c.loop-place in number-next _ l.place _ _ (omega arith) (found c)
-
 pub loop-place-init : goal.loop-place-init
 loop-place-init c =
     let s = c.args.sheet.now in
@@ -38,8 +27,8 @@ loop-place-preserved c =
     let next = c.number-1.given.0.1.0 in
     let left = items_from s next in
     let st = c.state-1.given in
-    let on = onward c.before.before.before.before.before in
-    let from = from-num s l.place x next (omega arith) (found c.before.before.before.before.before) in
+    let on = (let onward' : (let l = c.loop-place in let s = c.args.sheet.now in (l.place < c.number-1.given.0.1.0) × (c.number-1.given.0.1.0 ≤ length s)) = let l = c.loop-place in number-next _ l.place _ _ (omega arith) ((let found' : (let l = c.loop-place in let s = c.args.sheet.now in number_at s l.place ≡ Value c.number-1.given.0.0 c.number-1.given.0.1.0) = sym c.read_number-number.ensures ∙ c.number-1.given.1 in found')) in onward') in
+    let from = from-num s l.place x next (omega arith) ((let found' : (let l = c.loop-place in let s = c.args.sheet.now in number_at s l.place ≡ Value c.number-1.given.0.0 c.number-1.given.0.1.0) = sym c.read_number-number.ensures ∙ c.number-1.given.1 in found')) in
     let done = c.advance-state.ensures in (
       rw (done.0, done.1)
           (going_on st.0.0 st.0.1.0 x left (x ∷ []) (numbers left) st.1 from (ap numbers from ∙ numbers-num x _) l.invariant.0),
@@ -102,3 +91,27 @@ returns c =
     let end = from_end c.args.sheet.now l.place (omega arith) in
     c.answered-2.ensures ∙ ap (λ (k : ℕ). answered k l.count) c.at_end.ensures
     ∙ going_end end (ap numbers end ∙ numbers-none.0) l.invariant.0
+
+pub overflow_add-count : goal.overflow_add-count
+overflow_add-count c = omega (arith, c.loop-place.invariant.2)
+
+pub loop-place-smaller : goal.loop-place-smaller
+loop-place-smaller c = omega (arith, (let onward' : (let l = c.loop-place in let s = c.args.sheet.now in (l.place < c.number-1.given.0.1.0) × (c.number-1.given.0.1.0 ≤ length s)) = let l = c.loop-place in number-next _ l.place _ _ (omega arith) ((let found' : (let l = c.loop-place in let s = c.args.sheet.now in number_at s l.place ≡ Value c.number-1.given.0.0 c.number-1.given.0.1.0) = sym c.read_number-number.ensures ∙ c.number-1.given.1 in found')) in onward'))
+
+pub shape_of-counts-in-Ended : goal.shape_of-counts-in-Ended
+shape_of-counts-in-Ended c = c.loop-place.invariant.1
+
+pub shape_of-counts-in-IllFormed : goal.shape_of-counts-in-IllFormed
+shape_of-counts-in-IllFormed c = c.loop-place.invariant.1
+
+pub shape_of-counts-in-Complete : goal.shape_of-counts-in-Complete
+shape_of-counts-in-Complete c = c.loop-place.invariant.1
+
+pub shape_of-counts-in-OutOfRange : goal.shape_of-counts-in-OutOfRange
+shape_of-counts-in-OutOfRange c = c.loop-place.invariant.1
+
+pub shape_of-counts-in-OutOfOrder : goal.shape_of-counts-in-OutOfOrder
+shape_of-counts-in-OutOfOrder c = c.loop-place.invariant.1
+
+pub shape_of-counts : goal.shape_of-counts
+shape_of-counts c = c.loop-place.invariant.1

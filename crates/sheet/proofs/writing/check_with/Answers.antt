@@ -61,3 +61,33 @@ pub returns : goal.returns
 returns c =
     let l = c.loop-k in
     c.answered-2.ensures ∙ ap (λ (k : ℕ). answered k l.bytes) c.at_end.ensures ∙ passing_end (omega arith) l.invariant.0
+
+pub offset_bounds-numbers-k : goal.offset_bounds-numbers-k
+offset_bounds-numbers-k c = omega arith
+
+pub bounds-numbers-k : goal.bounds-numbers-k
+bounds-numbers-k c = omega arith
+
+pub shape_of-counts-then-is_retired : goal.shape_of-counts-then-is_retired
+shape_of-counts-then-is_retired c = c.loop-k.invariant.1
+
+pub overflow_add-bytes : goal.overflow_add-bytes
+overflow_add-bytes c = omega arith
+
+pub overflow_add-k : goal.overflow_add-k
+overflow_add-k c = omega arith
+
+pub loop-k-smaller : goal.loop-k-smaller
+loop-k-smaller c = omega arith
+
+pub shape_of-counts-in-Complete : goal.shape_of-counts-in-Complete
+shape_of-counts-in-Complete c = c.loop-k.invariant.1
+
+pub shape_of-counts-in-OutOfRange : goal.shape_of-counts-in-OutOfRange
+shape_of-counts-in-OutOfRange c = c.loop-k.invariant.1
+
+pub shape_of-counts-in-OutOfOrder : goal.shape_of-counts-in-OutOfOrder
+shape_of-counts-in-OutOfOrder c = c.loop-k.invariant.1
+
+pub shape_of-counts : goal.shape_of-counts
+shape_of-counts c = c.loop-k.invariant.1

@@ -12,10 +12,6 @@ use Rattle.closing.specs.Asks.{place_bound, tested-masks}
 use Rattle.visiting.specs.Store.{remembered_passes, remembered_now, known_added, memory-same, store-add}
 use Rattle.visiting.proofs.store.check.Goals as goal
 
--- the setting is one of the set
-placed : (s : goal.Start) → (s.args.f < most_fields) × (s.args.v < most_settings)
-placed s = let l = place_bound _ _ _ _ _ _ s.requires.0.0 _ _ s.requires.1.0.1 in (l.1, l.2)
-
 -- where it was tested: the call's beginning, and that nothing told that it passes
 abbrev started : tie.After-test → tie.Start
 started t = t.before.before.before.before.before.before.before.before.before.before.before.before.before.before
@@ -29,7 +25,7 @@ false-iff i n = (λ e. absurd (true≢false (sym e)), λ a. absurd (never (i.1 a
 
 pub recalled-requires : goal.recalled-requires
 recalled-requires c =
-    let l = placed c.before.before.before.before in
+    let l = (let placed' : (c.args.f < most_fields) × (c.args.v < most_settings) = let l = place_bound _ _ _ _ _ _ c.requires.0.0 _ _ c.requires.1.0.1 in (l.1, l.2) in placed') in
     (l.0, l.1, c.requires.0.1.long, c.requires.0.0.masks)
 
 pub returns-then-recalled : goal.returns-then-recalled
@@ -47,10 +43,10 @@ returns-then-recalled c =
     )
 
 pub offset_bounds-hood-f : goal.offset_bounds-hood-f
-offset_bounds-hood-f c = let l = (placed c.before.before.before.before.before.before.before.before).0 in omega arith
+offset_bounds-hood-f c = let l = ((let placed' : (c.args.f < most_fields) × (c.args.v < most_settings) = let l = place_bound _ _ _ _ _ _ c.requires.0.0 _ _ c.requires.1.0.1 in (l.1, l.2) in placed')).0 in omega arith
 
 pub bounds-hood-f : goal.bounds-hood-f
-bounds-hood-f c = (placed c.before.before.before.before.before.before.before.before.before).0
+bounds-hood-f c = ((let placed' : (c.args.f < most_fields) × (c.args.v < most_settings) = let l = place_bound _ _ _ _ _ _ c.requires.0.0 _ _ c.requires.1.0.1 in (l.1, l.2) in placed')).0
 
 pub test-requires : goal.test-requires
 test-requires c =
@@ -76,7 +72,7 @@ returns-then-not-test c =
 pub remember-requires : goal.remember-requires
 remember-requires c =
     let s = started c in
-    let l = placed s in
+    let l = (let placed' : (s.args.f < most_fields) × (s.args.v < most_settings) = let l = place_bound _ _ _ _ _ _ s.requires.0.0 _ _ s.requires.1.0.1 in (l.1, l.2) in placed') in
     let t = c.test in
     let ok = not-false t.result c.if-not-test.false in
     (l.0, l.1, s.pre.0.1.long, tested-masks _ _ _ _ _ _ s.pre.0.0 t.ensures.0 ok)
@@ -101,7 +97,7 @@ returns-then-remembers c =
     let told = untold c in
     let s = started c in
     let t = c.test in
-    let l = placed s in
+    let l = (let placed' : (s.args.f < most_fields) × (s.args.v < most_settings) = let l = place_bound _ _ _ _ _ _ s.requires.0.0 _ _ s.requires.1.0.1 in (l.1, l.2) in placed') in
     let ok = not-false t.result c.if-not-test.false in
     let d = t.ensures.0 in
     let stored = c.remember.ensures in

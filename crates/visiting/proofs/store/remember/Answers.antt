@@ -20,29 +20,20 @@ bounds-hood-f c = c.requires.0
 pub loop-h-init : goal.loop-h-init
 loop-h-init c = (search rules, stored-start _ _ _)
 
--- a word of the place is one of the memory
-in_memory : (c : goal.In-loop-h)
-    → c.place-base.result + c.loop-h.h < length c.loop-h.memory
-in_memory c =
-    let p = c.requires in
-    let e = c.place-base.ensures in
-    let z = c.loop-h.invariant.1.sized in
-    omega arith
-
 pub overflow_add-memory : goal.overflow_add-memory
-overflow_add-memory c = let l = in_memory c.before.before.before in omega arith
+overflow_add-memory c = let l = (let in_memory' : c.place-base.result + c.loop-h.h < length c.loop-h.memory = let p = c.requires in let e = c.place-base.ensures in let z = c.loop-h.invariant.1.sized in omega arith in in_memory') in omega arith
 
 pub offset_bounds-memory-base : goal.offset_bounds-memory-base
-offset_bounds-memory-base c = let l = in_memory c.before.before.before in search rules
+offset_bounds-memory-base c = let l = (let in_memory' : c.place-base.result + c.loop-h.h < length c.loop-h.memory = let p = c.requires in let e = c.place-base.ensures in let z = c.loop-h.invariant.1.sized in omega arith in in_memory') in search rules
 
 pub bounds-memory-base : goal.bounds-memory-base
-bounds-memory-base c = in_memory c.before.before.before
+bounds-memory-base c = (let in_memory' : c.place-base.result + c.loop-h.h < length c.loop-h.memory = let p = c.requires in let e = c.place-base.ensures in let z = c.loop-h.invariant.1.sized in omega arith in in_memory')
 
 pub loop-h-preserved : goal.loop-h-preserved
 loop-h-preserved c =
     let m = c.requires.3.small c.loop-h.h in (
       search rules,
-      rw c.flood.ensures (stored-turn _ _ _ _ _ _ c.loop-h-test.true (in_memory c.before.before.before)
+      rw c.flood.ensures (stored-turn _ _ _ _ _ _ c.loop-h-test.true ((let in_memory' : c.place-base.result + c.loop-h.h < length c.loop-h.memory = let p = c.requires in let e = c.place-base.ensures in let z = c.loop-h.invariant.1.sized in omega arith in in_memory'))
           (restrict-mask _ _ _ (omega arith) ∙ sym (words_of-at _ _)) c.loop-h.invariant.1),
     )
 

@@ -26,15 +26,11 @@ other Recalled h = refl
 other Passed h = refl
 other Failed h = absurd (miss others 2 tt h)
 
--- the field is one of those a set has a mask for
-low : (s : goal.Start) → s.args.f < most_fields
-low s = let l = s.requires.1.0.0 in let k = s.requires.0.0.wired.few in omega arith
-
 pub offset_bounds-m-f : goal.offset_bounds-m-f
-offset_bounds-m-f c = let l = low c.before.before.before.before in omega arith
+offset_bounds-m-f c = let l = (let low' : c.args.f < most_fields = let l = c.requires.1.0.0 in let k = c.requires.0.0.wired.few in omega arith in low') in omega arith
 
 pub bounds-m-f : goal.bounds-m-f
-bounds-m-f c = low c.before.before.before.before.before
+bounds-m-f c = (let low' : c.args.f < most_fields = let l = c.requires.1.0.0 in let k = c.requires.0.0.wired.few in omega arith in low')
 
 pub loop-left-init : goal.loop-left-init
 loop-left-init c =
@@ -72,12 +68,12 @@ returns-then-r c =
 
 pub offset_bounds-m-f-in-Failed : goal.offset_bounds-m-f-in-Failed
 offset_bounds-m-f-in-Failed c =
-    let l = low c.before.before.before.before.before.before.before.before.before.before.before.before.before.before.before.before.before.before.before.before.before.before.before.before.before.before.before.before.before in
+    let l = (let low' : c.args.f < most_fields = let l = c.requires.1.0.0 in let k = c.requires.0.0.wired.few in omega arith in low') in
     omega arith
 
 pub bounds-m-f-in-Failed : goal.bounds-m-f-in-Failed
 bounds-m-f-in-Failed c =
-    low c.before.before.before.before.before.before.before.before.before.before.before.before.before.before.before.before.before.before.before.before.before.before.before.before.before.before.before.before.before.before
+    (let low' : c.args.f < most_fields = let l = c.requires.1.0.0 in let k = c.requires.0.0.wired.few in omega arith in low')
 
 pub loop-left-smaller-in-Failed : goal.loop-left-smaller-in-Failed
 loop-left-smaller-in-Failed c =
