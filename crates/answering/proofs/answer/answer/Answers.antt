@@ -33,7 +33,10 @@ returns-then-too_short c =
     answers-short _ _ sized _ _ _ _ (sym c.if-too_short.true ∙ c.too_short.ensures)
 
 pub take_in-taken-requires : goal.take_in-taken-requires
-take_in-taken-requires c = (roomy _ _ _ (sym c.too_short.ensures ∙ c.if-too_short.false)).sheet-room
+take_in-taken-requires c =
+    let s = c.args in
+    let e = sym c.too_short.ensures ∙ c.if-too_short.false in
+    (roomy (length s.offers.now) (length s.rows.now) (length s.memory.now) e).sheet-room
 
 -- ---- 1 to 5
 pub returns-then-taken-ne0 : goal.returns-then-taken-ne0
