@@ -15,4 +15,6 @@ pub returns-in-4 : goal.returns-in-4
 returns-in-4 c = rw (change_withdraw-strike _ _ _ c.in-4.is) c.add-in-4.ensures
 
 pub returns-in_default : goal.returns-in_default
-returns-in_default c = rw (change_none _ _ _ (λ e. omega arith) (λ e. omega arith) (λ e. omega arith) (λ e. omega arith))
+returns-in_default c =
+    let e = c.args.e in
+    rw (change_none e.kind e.field e.position (λ k. omega arith) (λ k. omega arith) (λ k. omega arith) (λ k. omega arith))

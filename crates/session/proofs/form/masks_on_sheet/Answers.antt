@@ -17,7 +17,7 @@ loop-f-preserved c =
     let a = c.args in
     let inside = c.loop-f.invariant.1 in
     let within = sym c.within.ensures ∙ c.if-not-within.false in
-    (search rules, inside-next a.outline.full a.t2 _ inside (eqb-true _ 0 within))
+    (search rules, inside-next a.outline.full a.masks _ inside (eqb-true _ 0 within))
 
 pub returns : goal.returns
 returns c = masks-on _ _ (λ g l. c.loop-f.invariant.1 g (search rules))
