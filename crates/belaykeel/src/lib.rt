@@ -1,6 +1,5 @@
-// Belaykeel for C and Rust: each call with the session by `&mut`. What a call answers is said in the crate `answering`. A slice is a
-// pointer and a length; a caller in C answers for it that the pointer is valid for that length and that what is written overlaps nothing
-// else that is lent.
+// Belaykeel: each call with the session by `&mut`. What a call answers is said in the crate `answering`. The crate `belaykeel_c` exports
+// the same functions to C.
 #![tactic(auto)]
 
 ghost use Rattle.ledger.specs.declared.Call.{Call};
@@ -11,8 +10,7 @@ ghost use Rattle.sheet.specs.Sources.{Gives, reading, writing};
 use session::Session;
 use sheet::answer::Answer;
 
-#[unsafe(no_mangle)]
-pub extern "C" fn belaykeel_open(
+pub fn belaykeel_open(
     session: &mut Session,
     sheet: &[u8],
     engine: u32,
@@ -33,8 +31,7 @@ pub extern "C" fn belaykeel_open(
     out.number
 }
 
-#[unsafe(no_mangle)]
-pub extern "C" fn belaykeel_show(
+pub fn belaykeel_show(
     session: &mut Session,
     sheet: &[u8],
     engine: u32,
@@ -52,8 +49,7 @@ pub extern "C" fn belaykeel_show(
     out.number
 }
 
-#[unsafe(no_mangle)]
-pub extern "C" fn belaykeel_choose(
+pub fn belaykeel_choose(
     session: &mut Session,
     sheet: &[u8],
     engine: u32,
@@ -75,8 +71,7 @@ pub extern "C" fn belaykeel_choose(
     out.number
 }
 
-#[unsafe(no_mangle)]
-pub extern "C" fn belaykeel_strike(
+pub fn belaykeel_strike(
     session: &mut Session,
     sheet: &[u8],
     engine: u32,
@@ -98,8 +93,7 @@ pub extern "C" fn belaykeel_strike(
     out.number
 }
 
-#[unsafe(no_mangle)]
-pub extern "C" fn belaykeel_withdraw_choice(
+pub fn belaykeel_withdraw_choice(
     session: &mut Session,
     sheet: &[u8],
     engine: u32,
@@ -122,8 +116,7 @@ pub extern "C" fn belaykeel_withdraw_choice(
     out.number
 }
 
-#[unsafe(no_mangle)]
-pub extern "C" fn belaykeel_withdraw_strike(
+pub fn belaykeel_withdraw_strike(
     session: &mut Session,
     sheet: &[u8],
     engine: u32,
@@ -146,8 +139,7 @@ pub extern "C" fn belaykeel_withdraw_strike(
     out.number
 }
 
-#[unsafe(no_mangle)]
-pub extern "C" fn belaykeel_back(
+pub fn belaykeel_back(
     session: &mut Session,
     sheet: &[u8],
     engine: u32,
@@ -165,8 +157,7 @@ pub extern "C" fn belaykeel_back(
     out.number
 }
 
-#[unsafe(no_mangle)]
-pub extern "C" fn belaykeel_coil_on(
+pub fn belaykeel_coil_on(
     session: &mut Session,
     sheet: &[u8],
     engine: u32,
@@ -185,16 +176,14 @@ pub extern "C" fn belaykeel_coil_on(
 }
 
 // Reads a sheet's bytes to its list of numbers.
-#[unsafe(no_mangle)]
-pub extern "C" fn belaykeel_read(sheet: &[u8], output: &mut [u32]) -> Answer
+pub fn belaykeel_read(sheet: &[u8], output: &mut [u32]) -> Answer
     ensures { Gives (reading sheet.now output.old) result output.new }
 {
     sheet::reading::read(sheet, output)
 }
 
 // Writes a list of numbers as a sheet's bytes.
-#[unsafe(no_mangle)]
-pub extern "C" fn belaykeel_write(numbers: &[u32], output: &mut [u8]) -> Answer
+pub fn belaykeel_write(numbers: &[u32], output: &mut [u8]) -> Answer
     ensures { Gives (writing numbers.now output.old) result output.new }
 {
     sheet::writing::write(numbers, output)

@@ -1,0 +1,184 @@
+// Belaykeel for C: each function of the crate `belaykeel` under the same name, with the same promise. A slice is a pointer and a length; a
+// caller in C answers for it that the pointer is valid for that length and that what is written overlaps nothing else that is lent.
+#![tactic(auto)]
+
+ghost use Rattle.ledger.specs.declared.Call.{Call};
+ghost use Rattle.ledger.specs.Ledger.{CHOOSE, STRIKE, WITHDRAW_CHOICE, WITHDRAW_STRIKE, decides};
+ghost use Rattle.answering.specs.Answer.{spaces, Answers};
+ghost use Rattle.sheet.specs.Sources.{Gives, reading, writing};
+
+use session::Session;
+use sheet::answer::Answer;
+
+#[unsafe(no_mangle)]
+pub extern "C" fn belaykeel_open(
+    session: &mut Session,
+    sheet: &[u8],
+    engine: u32,
+    order: &[u8],
+    selected: u32,
+    offers: &mut [u32],
+    rows: &mut [u32],
+    memory: &mut [u32],
+) -> u32
+    ensures { Answers (Call.Open selected) session.old sheet.now engine order.now
+        (spaces offers.old rows.old memory.old)
+        result session.new (spaces offers.new rows.new memory.new) }
+{
+    belaykeel::belaykeel_open(
+        session, sheet, engine, order, selected, offers, rows, memory,
+    )
+}
+
+#[unsafe(no_mangle)]
+pub extern "C" fn belaykeel_show(
+    session: &mut Session,
+    sheet: &[u8],
+    engine: u32,
+    order: &[u8],
+    offers: &mut [u32],
+    rows: &mut [u32],
+    memory: &mut [u32],
+) -> u32
+    ensures { Answers Call.Show session.old sheet.now engine order.now
+        (spaces offers.old rows.old memory.old)
+        result session.new (spaces offers.new rows.new memory.new) }
+{
+    belaykeel::belaykeel_show(session, sheet, engine, order, offers, rows, memory)
+}
+
+#[unsafe(no_mangle)]
+pub extern "C" fn belaykeel_choose(
+    session: &mut Session,
+    sheet: &[u8],
+    engine: u32,
+    order: &[u8],
+    field: u32,
+    position: u32,
+    offers: &mut [u32],
+    rows: &mut [u32],
+    memory: &mut [u32],
+) -> u32
+    ensures { Answers (decides CHOOSE field position) session.old sheet.now engine order.now
+        (spaces offers.old rows.old memory.old)
+        result session.new (spaces offers.new rows.new memory.new) }
+{
+    belaykeel::belaykeel_choose(
+        session, sheet, engine, order, field, position, offers, rows, memory,
+    )
+}
+
+#[unsafe(no_mangle)]
+pub extern "C" fn belaykeel_strike(
+    session: &mut Session,
+    sheet: &[u8],
+    engine: u32,
+    order: &[u8],
+    field: u32,
+    position: u32,
+    offers: &mut [u32],
+    rows: &mut [u32],
+    memory: &mut [u32],
+) -> u32
+    ensures { Answers (decides STRIKE field position) session.old sheet.now engine order.now
+        (spaces offers.old rows.old memory.old)
+        result session.new (spaces offers.new rows.new memory.new) }
+{
+    belaykeel::belaykeel_strike(
+        session, sheet, engine, order, field, position, offers, rows, memory,
+    )
+}
+
+#[unsafe(no_mangle)]
+pub extern "C" fn belaykeel_withdraw_choice(
+    session: &mut Session,
+    sheet: &[u8],
+    engine: u32,
+    order: &[u8],
+    field: u32,
+    position: u32,
+    offers: &mut [u32],
+    rows: &mut [u32],
+    memory: &mut [u32],
+) -> u32
+    ensures { Answers (decides WITHDRAW_CHOICE field position) session.old
+        sheet.now engine order.now
+        (spaces offers.old rows.old memory.old)
+        result session.new (spaces offers.new rows.new memory.new) }
+{
+    belaykeel::belaykeel_withdraw_choice(
+        session, sheet, engine, order, field, position, offers, rows, memory,
+    )
+}
+
+#[unsafe(no_mangle)]
+pub extern "C" fn belaykeel_withdraw_strike(
+    session: &mut Session,
+    sheet: &[u8],
+    engine: u32,
+    order: &[u8],
+    field: u32,
+    position: u32,
+    offers: &mut [u32],
+    rows: &mut [u32],
+    memory: &mut [u32],
+) -> u32
+    ensures { Answers (decides WITHDRAW_STRIKE field position) session.old
+        sheet.now engine order.now
+        (spaces offers.old rows.old memory.old)
+        result session.new (spaces offers.new rows.new memory.new) }
+{
+    belaykeel::belaykeel_withdraw_strike(
+        session, sheet, engine, order, field, position, offers, rows, memory,
+    )
+}
+
+#[unsafe(no_mangle)]
+pub extern "C" fn belaykeel_back(
+    session: &mut Session,
+    sheet: &[u8],
+    engine: u32,
+    order: &[u8],
+    offers: &mut [u32],
+    rows: &mut [u32],
+    memory: &mut [u32],
+) -> u32
+    ensures { Answers Call.Back session.old sheet.now engine order.now
+        (spaces offers.old rows.old memory.old)
+        result session.new (spaces offers.new rows.new memory.new) }
+{
+    belaykeel::belaykeel_back(session, sheet, engine, order, offers, rows, memory)
+}
+
+#[unsafe(no_mangle)]
+pub extern "C" fn belaykeel_coil_on(
+    session: &mut Session,
+    sheet: &[u8],
+    engine: u32,
+    order: &[u8],
+    offers: &mut [u32],
+    rows: &mut [u32],
+    memory: &mut [u32],
+) -> u32
+    ensures { Answers Call.CoilOn session.old sheet.now engine order.now
+        (spaces offers.old rows.old memory.old)
+        result session.new (spaces offers.new rows.new memory.new) }
+{
+    belaykeel::belaykeel_coil_on(session, sheet, engine, order, offers, rows, memory)
+}
+
+// Reads a sheet's bytes to its list of numbers.
+#[unsafe(no_mangle)]
+pub extern "C" fn belaykeel_read(sheet: &[u8], output: &mut [u32]) -> Answer
+    ensures { Gives (reading sheet.now output.old) result output.new }
+{
+    belaykeel::belaykeel_read(sheet, output)
+}
+
+// Writes a list of numbers as a sheet's bytes.
+#[unsafe(no_mangle)]
+pub extern "C" fn belaykeel_write(numbers: &[u32], output: &mut [u8]) -> Answer
+    ensures { Gives (writing numbers.now output.old) result output.new }
+{
+    belaykeel::belaykeel_write(numbers, output)
+}
