@@ -1,4 +1,4 @@
-// Links libbelaykeel.a, which `rt staticlib belaykeel` writes to target/staticlib. BELAYKEEL_STATICLIB names another directory.
+// Links libbelaykeel.a, which `tools/staticlibs` writes to target/staticlib. BELAYKEEL_STATICLIB names another directory.
 use std::path::{Path, PathBuf};
 
 fn main() {

@@ -1,4 +1,4 @@
-// Links target/staticlib/libengines_c.a, which `rt staticlib engines_c` writes.
+// Links target/staticlib/libengines_c.a, which `tools/staticlibs` writes.
 use std::path::Path;
 
 fn main() {

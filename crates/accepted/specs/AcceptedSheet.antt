@@ -18,18 +18,21 @@ values_same d d' r p q (inl v) = inl (v.0, v.1 ∙ p, (rw q at v).2)
 values_same d d' r p q (inr v) = inr v
 
 pub ruled-same : (n floor : ℕ) (d d' : ℕ → ℕ) (rs : List Rule) → ((k : ℕ) → k < n → d k ≡ d' k) → Ruled n d floor rs → Ruled n d' floor rs
-ruled-same n floor d d' rs h ruled-none = ruled-none
-ruled-same n floor d d' rs h (ruled-one {r = r} {rs = ts} l g t) =
-    let a = g.apart in
-    let b = g.within in
-    ruled-one l
-    (record {
-      apart = a;
-      within = b;
-      kind-le = g.kind-le;
-      numbers = values_same d d' r (h r.i (omega arith)) (h r.j b) g.numbers;
-    })
-    (ruled-same n _ d d' ts h t)
+ruled-same n floor d d' rs h ruled = go floor rs ruled
+  where
+    go : (low : ℕ) (rs : List Rule) → Ruled n d low rs → Ruled n d' low rs
+    go low rs ruled-none = ruled-none
+    go low rs (ruled-one {r = r} {rs = ts} l g t) =
+        let a = g.apart in
+        let b = g.within in
+        ruled-one l
+        (record {
+          apart = a;
+          within = b;
+          kind-le = g.kind-le;
+          numbers = values_same d d' r (h r.i (omega arith)) (h r.j b) g.numbers;
+        })
+        (go _ ts t)
 
 sheet_of : (n reach e : ℕ) (ys zs : List ℕ) → 1 ≤ n → n ≤ most_fields → (t : FieldsIn 0 n n no_counts ys) → t.rest ≡ reach ∷ e ∷ zs
     → 1 ≤ reach → reach ≤ whole_reach → e ≤ most_rules → refusal_from (after_rule n e 0) t.counts (of_numbers zs) ≡ 0 → IsSheet (n ∷ ys)

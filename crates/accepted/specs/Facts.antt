@@ -72,9 +72,13 @@ ruled_floor n floor d rs (ruled-one l g t) h = l
 
 ruled-next : (n floor : ℕ) (d : ℕ → ℕ) (rs : List Rule) → Ruled n d floor rs → (r : ℕ) → suc r < length rs
     → key_of (get_or rs r no_rule) < key_of (get_or rs (suc r) no_rule)
-ruled-next n floor d rs ruled-none r h = absurd (omega arith)
-ruled-next n floor d rs (ruled-one {rs = ts} l g t) zero h = let q = ruled_floor n _ d ts t (omega arith) in omega arith
-ruled-next n floor d rs (ruled-one {rs = ts} l g t) (suc r) h = ruled-next n _ d ts t r (omega arith)
+ruled-next n floor d rs ruled = go floor rs ruled
+  where
+    go : (low : ℕ) (rs : List Rule) → Ruled n d low rs → (r : ℕ) → suc r < length rs
+        → key_of (get_or rs r no_rule) < key_of (get_or rs (suc r) no_rule)
+    go low rs ruled-none r h = absurd (omega arith)
+    go low rs (ruled-one {rs = ts} l g t) zero h = let q = ruled_floor n _ d ts t (omega arith) in omega arith
+    go low rs (ruled-one {rs = ts} l g t) (suc r) h = go _ ts t r (omega arith)
 
 tripled_floor : (n floor : ℕ) (ts : List Triple) → Tripled n floor ts → 0 < length ts → floor ≤ key_of_triple (get_or ts 0 no_triple)
 tripled_floor n floor ts tripled-none h = absurd (omega arith)

@@ -36,9 +36,12 @@ abbrev pub rule_of : Sheet → ℕ → Rule
 rule_of s r = get_or s.rules r no_rule
 
 ruled-at : (n floor : ℕ) (d : ℕ → ℕ) (rs : List Rule) → Ruled n d floor rs → (k : ℕ) → k < length rs → RuleRight n d (get_or rs k no_rule)
-ruled-at n floor d rs ruled-none k h = absurd (omega arith)
-ruled-at n floor d rs (ruled-one {rs = ts} l g t) zero h = g
-ruled-at n floor d rs (ruled-one {rs = ts} l g t) (suc k) h = ruled-at n _ d ts t k (omega arith)
+ruled-at n floor d rs ruled = go floor rs ruled
+  where
+    go : (low : ℕ) (rs : List Rule) → Ruled n d low rs → (k : ℕ) → k < length rs → RuleRight n d (get_or rs k no_rule)
+    go low rs ruled-none k h = absurd (omega arith)
+    go low rs (ruled-one {rs = ts} l g t) zero h = g
+    go low rs (ruled-one {rs = ts} l g t) (suc k) h = go _ ts t k (omega arith)
 
 -- a triple that is not there
 abbrev pub no_triple : Triple

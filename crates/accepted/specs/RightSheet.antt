@@ -98,13 +98,16 @@ masks-by : {met : Bool} (left floor j more n : ℕ) (ds vs rest : List ℕ) → 
     → Taken (after_rule n left floor) ds rest met
     → Taken (Wants n (Mask left floor j more)) ds (vs ++ rest) met
 unfolding refusal_from retired_from advance
-masks-by left floor j more n ds vs rest below_none e h = absurd (omega arith)
-masks-by left floor j more n ds vs rest (below_one {x = x} {xs = []} p t) e h =
-    to-true _ _ _ ds rest (lt-ltb x _ p) (after_none more _ _ ds rest (omega arith) h)
-masks-by left floor j more n ds vs rest (below_one {x = x} {xs = y ∷ ys} p t) e h =
-    to-true _ _ _ ds (y ∷ ys ++ rest) (lt-ltb x _ p)
-    (after_more more _ _ ds (y ∷ ys ++ rest) (omega arith)
-    (masks-by left floor j (more - 1) n ds (y ∷ ys) rest t (omega arith) h))
+masks-by {met} left floor j more n ds vs rest below size h = go more vs below size
+  where
+    go : (more : ℕ) (vs : List ℕ) → Below (2 ^ get_or ds j 0) vs → length vs ≡ suc more
+        → Taken (Wants n (Mask left floor j more)) ds (vs ++ rest) met
+    go more vs below_none e = absurd (omega arith)
+    go more vs (below_one {x = x} {xs = []} p t) e =
+        to-true _ _ _ ds rest (lt-ltb x _ p) (after_none more _ _ ds rest (omega arith) h)
+    go more vs (below_one {x = x} {xs = y ∷ ys} p t) e =
+        to-true _ _ _ ds (y ∷ ys ++ rest) (lt-ltb x _ p)
+        (after_more more _ _ ds (y ∷ ys ++ rest) (omega arith) (go (more - 1) (y ∷ ys) t (omega arith)))
 
 amount_by : {met : Bool} (left floor n : ℕ) (ds vs rest : List ℕ) → Below (largest_setting + 1) vs → length vs ≡ 1
     → Taken (after_rule n left floor) ds rest met
@@ -143,16 +146,20 @@ rule-by left floor n ds rest r l g p h =
 rules-by : (floor n : ℕ) (ds rest : List ℕ) (rs : List Rule) → ((k : ℕ) → k < n → 1 ≤ get_or ds k 0) → Ruled n (d_of ds) floor rs
     → Taken (Wants n Triples) ds rest false → Taken (after_rule n (length rs) floor) ds (rules_numbers rs ++ rest) (retired_rules rs)
 unfolding rules_numbers retired_rules
-rules-by floor n ds rest rs p ruled-none h = after_none 0 (Wants n Triples) (Wants n (First (0 - 1) floor)) ds rest refl h
-rules-by floor n ds rest rs p (ruled-one {r = r} {rs = ts} l g t) h =
-    let a = g.apart in
-    let b = g.within in
-    let e : length ts ≡ suc (length ts) - 1 = omega arith in
-    after_more (suc (length ts)) (Wants n Triples) (Wants n (First (suc (length ts) - 1) floor)) ds
-    (r.i ∷ r.j ∷ r.kind ∷ ((r.values ++ rules_numbers ts) ++ rest)) (omega arith)
-    (rw (sym e, append_assoc r.values (rules_numbers ts) rest)
-    (rule-by (length ts) floor n ds (rules_numbers ts ++ rest) r l g (p r.i (omega arith))
-    (rules-by (key r.i r.j + 1) n ds rest ts p t h)))
+rules-by floor n ds rest rs p ruled h = go floor rs ruled
+  where
+    go : (low : ℕ) (rs : List Rule) → Ruled n (d_of ds) low rs
+        → Taken (after_rule n (length rs) low) ds (rules_numbers rs ++ rest) (retired_rules rs)
+    go low rs ruled-none = after_none 0 (Wants n Triples) (Wants n (First (0 - 1) low)) ds rest refl h
+    go low rs (ruled-one {r = r} {rs = ts} l g t) =
+        let a = g.apart in
+        let b = g.within in
+        let e : length ts ≡ suc (length ts) - 1 = omega arith in
+        after_more (suc (length ts)) (Wants n Triples) (Wants n (First (suc (length ts) - 1) low)) ds
+        (r.i ∷ r.j ∷ r.kind ∷ ((r.values ++ rules_numbers ts) ++ rest)) (omega arith)
+        (rw (sym e, append_assoc r.values (rules_numbers ts) rest)
+        (rule-by (length ts) low n ds (rules_numbers ts ++ rest) r l g (p r.i (omega arith))
+        (go (key r.i r.j + 1) ts t)))
 
 triple-by : {met : Bool} (left floor n : ℕ) (ds rest : List ℕ) (t : Triple) → floor ≤ key_of_triple t → TripleRight n t
     → Taken (after_triple n left (key_of_triple t + 1)) ds rest met
@@ -172,12 +179,15 @@ triple-by left floor n ds rest t l g h =
 triples-by : (floor n : ℕ) (ds : List ℕ) (ts : List Triple) → Tripled n floor ts
     → Taken (after_triple n (length ts) floor) ds (triples_numbers ts) false
 unfolding refusal_from retired_from triples_numbers
-triples-by floor n ds ts tripled-none = after_none 0 Complete (Wants n (TripleFirst (0 - 1) floor)) ds [] refl (refl, refl)
-triples-by floor n ds ts (tripled-one {t = t} {ts = us} l g r) =
-    let e : length us ≡ suc (length us) - 1 = omega arith in
-    after_more (suc (length us)) Complete (Wants n (TripleFirst (suc (length us) - 1) floor)) ds
-    (t.i ∷ t.j ∷ t.k ∷ t.c ∷ triples_numbers us) (omega arith)
-    (rw (sym e) (triple-by (length us) floor n ds (triples_numbers us) t l g (triples-by (key_of_triple t + 1) n ds us r)))
+triples-by floor n ds ts tripled = go floor ts tripled
+  where
+    go : (low : ℕ) (ts : List Triple) → Tripled n low ts → Taken (after_triple n (length ts) low) ds (triples_numbers ts) false
+    go low ts tripled-none = after_none 0 Complete (Wants n (TripleFirst (0 - 1) low)) ds [] refl (refl, refl)
+    go low ts (tripled-one {t = t} {ts = us} l g r) =
+        let e : length us ≡ suc (length us) - 1 = omega arith in
+        after_more (suc (length us)) Complete (Wants n (TripleFirst (suc (length us) - 1) low)) ds
+        (t.i ∷ t.j ∷ t.k ∷ t.c ∷ triples_numbers us) (omega arith)
+        (rw (sym e) (triple-by (length us) low n ds (triples_numbers us) t l g (go (key_of_triple t + 1) us r)))
 
 -- what stands after the rules
 part_by : (n : ℕ) (ds : List ℕ) (ts : List Triple) → length ts ≤ most_triples → Tripled n 0 ts

@@ -119,17 +119,20 @@ sized-values n d r h p q (inr v) =
 sized-rules : (n floor : ℕ) (d : ℕ → ℕ) (rs : List Rule) → n ≤ most_fields → ((k : ℕ) → k < n → d k ≤ most_settings) → Ruled n d floor rs
     → Sized (99 * length rs) (27 * length rs) (rules_numbers rs)
 unfolding rules_numbers
-sized-rules n floor d rs m h ruled-none = sized-none
-sized-rules n floor d rs m h (ruled-one {r = r} {rs = ts} l g t) =
-    let a = g.apart in
-    let b = g.within in
-    let k = g.kind-le in
-    sized-more (1 + (1 + (1 + (4 * most_settings + 99 * length ts)))) (suc (suc (suc (most_settings + 27 * length ts)))) _ _ _
-    (omega arith) (omega arith)
-    (sized-one 1 _ _ r.i _ (omega (arith, size_1 r.i (omega arith))) (omega arith)
-    (sized-one 1 _ _ r.j _ (omega (arith, size_1 r.j (omega arith))) (omega arith)
-    (sized-one 1 _ _ r.kind _ (omega (arith, size_1 r.kind (omega arith))) (omega arith)
-    (sized-append _ _ _ _ r.values (rules_numbers ts) (sized-values n d r h (omega arith) b g.numbers) (sized-rules n _ d ts m h t)))))
+sized-rules n floor d rs m h ruled = go floor rs ruled
+  where
+    go : (low : ℕ) (rs : List Rule) → Ruled n d low rs → Sized (99 * length rs) (27 * length rs) (rules_numbers rs)
+    go low rs ruled-none = sized-none
+    go low rs (ruled-one {r = r} {rs = ts} l g t) =
+        let a = g.apart in
+        let b = g.within in
+        let k = g.kind-le in
+        sized-more (1 + (1 + (1 + (4 * most_settings + 99 * length ts)))) (suc (suc (suc (most_settings + 27 * length ts)))) _ _ _
+        (omega arith) (omega arith)
+        (sized-one 1 _ _ r.i _ (omega (arith, size_1 r.i (omega arith))) (omega arith)
+        (sized-one 1 _ _ r.j _ (omega (arith, size_1 r.j (omega arith))) (omega arith)
+        (sized-one 1 _ _ r.kind _ (omega (arith, size_1 r.kind (omega arith))) (omega arith)
+        (sized-append _ _ _ _ r.values (rules_numbers ts) (sized-values n d r h (omega arith) b g.numbers) (go _ ts t)))))
 
 sized-triples : (n floor : ℕ) (ts : List Triple) → n ≤ most_fields → Tripled n floor ts
     → Sized (6 * length ts) (4 * length ts) (triples_numbers ts)

@@ -220,6 +220,7 @@ fn rules_if(test: bool, n: u32, rules: u32, floor: u64) -> State
 }
 
 // What the number x leads to in a sheet of n fields, where it is what is expected; `counts` holds the counts of the fields so far.
+#[tactic(auto, unfolding(crate::specs::Grammar::advance))]
 pub fn advance(n: u32, expected: Expected, counts: &mut [u32], x: u32) -> State
     ensures { (result ≡ (advance n expected counts.old x).0)
         × (counts.new ≡ (advance n expected counts.old x).1) }

@@ -1,7 +1,6 @@
 // The calls by name, and the events. What the calls answer is said in specs/Ledger.antt; there is no code here.
 #![tactic(auto)]
 
-
 // The kinds of events.
 pub const CHOOSE: u32 = 1;
 

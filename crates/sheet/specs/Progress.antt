@@ -51,8 +51,8 @@ module _ {st : State} {ds : List ℕ} {is all : List Item} {count : ℕ} {rest v
       rw (z, ne_eqb k 0 (λ q. absurd (omega (arith, q))))
 
 -- a state that expects no number
-pub stays : (st : State) (ds : List ℕ) (k : ℕ) (is : List Item) → ((f : ℕ → Expected → ℕ) → meets st f ≡ k) → (length is ≡ 0 → at_end st ≡ k)
-    → refusal_from st ds is ≡ k
+pub stays : (st : State) (ds : List ℕ) (k : ℕ) (is : List Item) → ((f : ℕ → Expected → ℕ) → meets st f ≡ k)
+    → (length is ≡ 0 → at_end st ≡ k) → refusal_from st ds is ≡ k
 unfolding refusal_from
 stays st ds k [] h p = p refl
 stays st ds k (num x ∷ is) h p = h _

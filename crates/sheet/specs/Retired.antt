@@ -19,7 +19,8 @@ use Rattle.sheet.specs.declared.answer.Answer.{Answer}
 -- ---- one number
 
 -- the retired kind, and another number
-retired-met : (n : ℕ) (e : Expected) (ds : List ℕ) (x : ℕ) (xs : List ℕ) → is_retired e x ≡ true → retired_from (Wants n e) ds (x ∷ xs) ≡ true
+retired-met : (n : ℕ) (e : Expected) (ds : List ℕ) (x : ℕ) (xs : List ℕ) → is_retired e x ≡ true
+    → retired_from (Wants n e) ds (x ∷ xs) ≡ true
 unfolding retired_from
 retired-met n e ds x xs h = or_l (is_retired e x) _ h
 

@@ -23,7 +23,7 @@ enum Place {
 }
 
 /// What the language has of itself.
-const BUILT_IN: &[&str] = &[":", "→", "×", "=", "in", "record", "Type", "Unit", "tt", "⊥", "_", "where", "⌜", "⌝", "now"];
+const BUILT_IN: &[&str] = &[":", "→", "×", "=", "in", "record", "Type", "Unit", "tt", "⊥", "_", "where"];
 
 /// The entries of a directory; none where there is no such directory.
 fn entries(directory: &Path) -> Vec<String> {
@@ -123,10 +123,9 @@ impl Reach {
 
     /// Where a name of a module is declared. A module of code is a path `a::b`.
     fn located(&self, file: &str, module: &str, name: &str) -> Place {
-        if let Some((owner, path)) = module.strip_prefix("Rattle·").and_then(|module| module.split_once('.')) {
-            let owner = owner.split('·').next().unwrap_or(owner);
+        if let Some((owner, path)) = module.strip_prefix("Rattle.").and_then(|module| module.split_once('.')) {
             if let Some(declared) = path.strip_prefix("specs.declared.") {
-                let declared = declared.trim_end_matches(".the-variants");
+                let declared = declared.trim_end_matches(".TheVariants");
                 let (inside, name) = declared.rsplit_once('.').unwrap_or(("lib", declared));
                 return Place::File(format!("{owner}/src/{}.rt", inside.replace('.', "/")), name.to_string());
             }

@@ -39,10 +39,10 @@ pub fn tokens(line: &str) -> Vec<String> {
     parted.map(str::to_string).collect()
 }
 
-/// The symbols of an infix name: `⊆` of `_⊆_`. Any other name has none.
+/// The symbols of an infix name: `⊆` of `◌⊆◌`. Any other name has none.
 fn symbols(name: &str) -> impl Iterator<Item = &str> {
-    let infix = name.len() > 1 && (name.starts_with('_') || name.ends_with('_'));
-    name.split('_').filter(move |symbol| infix && !symbol.is_empty())
+    let infix = name.contains('◌');
+    name.split('◌').filter(move |symbol| infix && !symbol.is_empty())
 }
 
 impl Declaration {
@@ -156,10 +156,13 @@ impl Source {
         let lines: Vec<&str> = text.lines().map(|line| line.split("//").next().unwrap_or("")).collect();
         let text = lines.join("\n");
         for statement in text.split(';').map(str::trim_start) {
+            let statement = statement.strip_prefix("#![tactic(auto)]").map_or(statement, str::trim_start);
             if let Some(line) = statement.strip_prefix("ghost use ") {
                 source.import(&tokens(line));
-            } else if let Some((path, name)) = statement.strip_prefix("use ").and_then(|line| line.rsplit_once("::")) {
-                source.imports.entry(name.to_string()).or_insert((path.to_string(), name.to_string()));
+            } else if let Some((path, items)) = statement.strip_prefix("use ").and_then(|line| line.rsplit_once("::")) {
+                for name in names(items) {
+                    source.imports.entry(name.clone()).or_insert((path.to_string(), name));
+                }
             }
         }
         let starts: Vec<usize> = (0..lines.len()).filter(|at| is_item(lines[*at])).chain([lines.len()]).collect();
@@ -223,13 +226,20 @@ fn of_code(piece: &str) -> Option<Declaration> {
     Some(Declaration { name: names(rest)[0].clone(), is_function: false, constructors, parts: vec![(Vec::new(), types)] })
 }
 
+/// Whether what follows the word of a clause is its braces, or its name and then these.
+fn is_clause(rest: &str) -> bool {
+    rest.starts_with(' ') && rest.find('{').is_some_and(|open| names(&rest[..open]).len() < 2 && !rest[..open].contains(['(', ';']))
+}
+
 /// A public function: its statement is the types that it takes and gives; its parameters bind their names in its contract.
 fn of_function(piece: &str) -> Option<Declaration> {
     let piece = piece.trim_start().strip_prefix("pub ")?;
     let piece = &piece[piece.find("fn ")? + 3..];
     let signature = &piece[piece.find('(')?..piece.find('{')?];
-    let bound: Vec<String> = signature.split(':').filter_map(|before| names(before).pop()).chain(["self".to_string()]).collect();
-    let clauses = ["requires {", "ensures {"].into_iter().flat_map(|clause| piece.match_indices(clause));
+    let bound = signature.split(':').filter_map(|before| names(before).pop());
+    let bound: Vec<String> = bound.chain(["self", "result"].map(str::to_string)).collect();
+    let clauses = ["requires", "ensures"].into_iter().flat_map(|clause| piece.match_indices(clause));
+    let clauses = clauses.filter(|(at, clause)| is_clause(&piece[at + clause.len()..]));
     let contract = clauses.flat_map(|(at, _)| braced(&piece[at..]).lines().flat_map(tokens).collect::<Vec<_>>()).collect();
     let parts = vec![(bound.clone(), names(signature)), (bound, contract)];
     Some(Declaration { name: names(piece)[0].clone(), is_function: true, constructors: Vec::new(), parts })

@@ -18,9 +18,9 @@ fn of(text: &str, name: &str) -> Vec<String> {
 
 #[test]
 fn an_infix_name_is_called_by_its_symbol() {
-    let source = Source::antt("use A.B.{_⊆_}\ninfix 40 _⇒_\npub _⇒_ : T\na ⇒ b = a\n");
-    assert_eq!(source.imports["⊆"], ("A.B".to_string(), "_⊆_".to_string()));
-    assert!(source.declarations[0].is_called("⇒") && source.declarations[0].is_called("_⇒_"));
+    let source = Source::antt("use A.B.{◌⊆◌}\ninfix 40 ◌⇒◌\npub ◌⇒◌ : T\na ⇒ b = a\n");
+    assert_eq!(source.imports["⊆"], ("A.B".to_string(), "◌⊆◌".to_string()));
+    assert!(source.declarations[0].is_called("⇒") && source.declarations[0].is_called("◌⇒◌"));
     assert_eq!(source.declarations.len(), 1);
     let code = Source::rt("\npub fn with_draw(x: u32) -> u32\n{\n    x\n}\n");
     assert!(!code.declarations[0].is_called("draw"));
@@ -39,7 +39,7 @@ fn an_import_may_rename_a_name_or_a_module() {
 
 #[test]
 fn a_field_is_bound_in_the_fields_after_it() {
-    let text = "pub record R (s : S) : Type where\n  pub size : N\n  -- a comment\n  pub fits : size ≤ bound\n      → s .width ≡ size\n";
+    let text = "pub record R (s : S) : Type where\n  pub size : N\n  -- a comment\n  pub fits : size ≤ bound\n      → s.width ≡ size\n";
     assert_eq!(of(text, "R"), ["S", "Type", "S", "N", "S", "N", "≤", "bound", "≡"]);
 }
 
@@ -81,18 +81,18 @@ ghost use A.B.{Gives};
 ghost use A.C.{
     one, two as three,
 };
-use c::three;
+use c::{three, four};
 
-#[x]
+#[unsafe(no_mangle)]
 pub extern \"C\" fn read(sheet: &[u8], output: &mut [u8]) -> Answer
     requires { P sheet }
-    ensures { λ r. ⌜ Gives (sheet .entry) r q ⌝ }
+    ensures given { Gives sheet.now result q }
 {
     other(sheet)
 }
 
 fn other(sheet: &[u8]) -> u32
-    ensures { λ r. ⌜ Hidden r ⌝ }
+    ensures { Hidden result }
 {
     0
 }
@@ -103,7 +103,7 @@ pub struct Pair {
 
 impl Pair {
     pub fn size(self) -> Two
-        ensures { λ r. ⌜ Sized self r ⌝ }
+        ensures { Sized self result }
     {
         0
     }
@@ -122,9 +122,9 @@ fn a_public_function_has_its_types_and_its_contract() {
     assert_eq!(source.imports["Answer"], ("a::b".to_string(), "Answer".to_string()));
     assert_eq!(source.imports["three"], ("A.C".to_string(), "two".to_string()));
     let of = |name: &str| source.declarations.iter().find(|declaration| declaration.name == name).map(mentioned);
-    assert_eq!(of("read").unwrap(), ["u8", "mut", "u8", "Answer", "P", "⌜", "Gives", "q", "⌝"]);
+    assert_eq!(of("read").unwrap(), ["u8", "mut", "u8", "Answer", "P", "Gives", "q"]);
     assert!(of("other").is_none());
-    assert_eq!(of("size").unwrap(), ["Two", "⌜", "Sized", "⌝"]);
+    assert_eq!(of("size").unwrap(), ["Two", "Sized"]);
     assert_eq!((of("Pair").unwrap(), of("Sort").unwrap()), (vec!["One".to_string()], vec!["Pair".to_string()]));
     assert!(source.declarations.iter().any(|declaration| declaration.constructors == ["None", "Some"]));
 }

@@ -30,7 +30,7 @@ fn a_name_that_is_missing_is_found() {
 
 #[test]
 fn a_name_that_is_not_reached_is_found() {
-    let found = [("not reached", "pick-true"), ("not declared there", "picked")];
+    let found = [("not reached", "pick_true"), ("not declared there", "picked")];
     let found = found.map(|(why, name)| format!("listed and {why}: remove `{name}` from the entry of `masks/specs/Pick.antt`"));
-    assert_eq!(found_with("`pick`, `pick-true`, `picked`"), found);
+    assert_eq!(found_with("`pick`, `pick_true`, `picked`"), found);
 }

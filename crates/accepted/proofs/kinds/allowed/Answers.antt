@@ -1,33 +1,34 @@
 use mathlib.Core.Path.{◌≡◌, sym, ap, ◌∙◌}
-use Prim.Native.Nat.{ℕ, ◌+◌, ◌≤◌}
-use lib.Dec.{leb}
+use Prim.Native.Nat.{ℕ, ◌+◌, ◌≤◌, ◌<◌}
+use mathlib.Core.Bool.{false}
+use lib.Dec.{leb, eqb}
 use native.Mathlib.Omega.{arith}
 use borrow.Author.Tests.{leb-true, le-leb, lt-leb, ne_eqb}
 use Rattle.limits.specs.Limits.{encoder_tolerance}
 use Rattle.masks.specs.Tests.{iff_eq}
 use Rattle.masks.specs.Pick.{pick, pick-false}
-use Rattle.accepted.specs.Kinds.{distance}
+use Rattle.accepted.specs.Kinds.{distance, allows}
 use Rattle.accepted.proofs.kinds.allowed.Goals as goal
 
 pub returns-in-0 : goal.returns-in-0
 unfolding pick
-returns-in-0 c = rw c.in-0.keys1 c.has.ensures
+returns-in-0 c = rw c.in-0.is c.has.ensures
 
 pub returns-in-1 : goal.returns-in-1
 unfolding pick
-returns-in-1 c = rw c.in-1.keys2
+returns-in-1 c = rw c.in-1.is
 
 pub returns-in-2 : goal.returns-in-2
 unfolding pick
-returns-in-2 c = rw c.in-2.keys3
+returns-in-2 c = rw c.in-2.is
 
 pub returns-in-3 : goal.returns-in-3
 unfolding pick
-returns-in-3 c = rw c.in-3.keys4 (ap (leb c.args.c) c.distance.ensures)
+returns-in-3 c = rw c.in-3.is (ap (leb c.args.c) c.distance.ensures)
 
 pub returns-in-4 : goal.returns-in-4
 unfolding pick
-returns-in-4 c = rw c.in-4.keys5 (ap (λ (d : ℕ). leb d c.args.c) c.distance-in-4.ensures)
+returns-in-4 c = rw c.in-4.is (ap (λ (d : ℕ). leb d c.args.c) c.distance-in-4.ensures)
 
 -- A number d that is not below c by more than t differs from c by at most t where it is not above c by more.
 within : (d c t : ℕ) → c ≤ d + t → leb d (c + t) ≡ leb (distance d c) t
@@ -41,7 +42,7 @@ unfolding pick
 returns-then-z-d c =
     let d = c.distance-d in
     let z = c.args.c in
-    rw (c.in-5.keys6, sym d.ensures) (within d.result z encoder_tolerance (omega (arith, c.if-z-d.true)))
+    rw (c.in-5.is, sym d.ensures) (within d.result z encoder_tolerance (omega (arith, c.if-z-d.true)))
 
 -- below c by more than the tolerance
 pub returns-else-z-d : goal.returns-else-z-d
@@ -50,16 +51,18 @@ returns-else-z-d c =
     let d = c.distance-d in
     let z = c.args.c in
     let far = lt-leb (distance d.result z) encoder_tolerance (omega (arith, c.if-z-d.false)) in
-    rw (c.in-5.keys6, sym d.ensures) (lt-leb z _ (omega (arith, c.if-z-d.false)) ∙ sym far)
+    rw (c.in-5.is, sym d.ensures) (lt-leb z _ (omega (arith, c.if-z-d.false)) ∙ sym far)
 
 -- no kind of the table
+none : (k c p q b : ℕ) → 5 < k → allows k c p q b ≡ false
+none k c p q b h =
+    let other : (i : ℕ) → i ≤ 5 → eqb k i ≡ false = λ i l. ne_eqb k i (λ e. omega arith) in
+    pick-false _ _ _ (other 0 (omega arith))
+    ∙ pick-false _ _ _ (other 1 (omega arith))
+    ∙ pick-false _ _ _ (other 2 (omega arith))
+    ∙ pick-false _ _ _ (other 3 (omega arith))
+    ∙ pick-false _ _ _ (other 4 (omega arith))
+    ∙ pick-false _ _ _ (other 5 (omega arith))
+
 pub returns-in_default : goal.returns-in_default
-returns-in_default c =
-    let k = c.args.kind in
-    let other = c.in_default.rest in
-    sym (pick-false _ _ _ (ne_eqb k 0 other.0.0.0.0.0.1)
-    ∙ pick-false _ _ _ (ne_eqb k 1 other.0.0.0.0.1)
-    ∙ pick-false _ _ _ (ne_eqb k 2 other.0.0.0.1)
-    ∙ pick-false _ _ _ (ne_eqb k 3 other.0.0.1)
-    ∙ pick-false _ _ _ (ne_eqb k 4 other.0.1)
-    ∙ pick-false _ _ _ (ne_eqb k 5 other.1))
+returns-in_default c = let h : 5 < c.args.kind = omega arith in sym (none _ _ _ _ _ h)

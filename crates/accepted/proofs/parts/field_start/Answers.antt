@@ -1,10 +1,17 @@
 use mathlib.Core.Path.{◌≡◌, sym, ap, ◌∙◌}
+use mathlib.Core.List.{List}
 use Prim.Native.Nat.{ℕ, ◌+◌, ◌<◌}
 use native.Mathlib.Omega.{arith}
 use lib.ListN.{length, get_or}
-use Rattle.accepted.specs.Parts.{field_start, field-first, field_next}
+use Rattle.sheet.specs.Sources.{Accepted}
+use Rattle.accepted.specs.Parts.{fields_of, field_start, field-first, field_next}
 use Rattle.accepted.specs.Facts.{facts}
 use Rattle.accepted.proofs.parts.field_start.Goals as goal
+
+-- field k, which stands at a place, ends before the list does
+field-fits : (xs : List ℕ) (k place : ℕ) → Accepted xs → k < fields_of xs → place ≡ field_start xs k
+    → place + 1 + get_or xs place 0 < length xs
+field-fits xs k place a h e = rw e ((facts xs a).field_end k h)
 
 pub loop-k-preserved : goal.loop-k-preserved
 loop-k-preserved c =
@@ -23,13 +30,22 @@ pub loop-k-init : goal.loop-k-init
 loop-k-init c = (sym (field-first _), omega arith)
 
 pub at-d-requires : goal.at-d-requires
-at-d-requires c = omega (arith, (let ends' : (let l = c.loop-k in let xs = c.args.numbers.now in l.place + 1 + get_or xs l.place 0 < length xs) = let l = c.loop-k in let g = c.requires in rw l.invariant.0 ((facts c.args.numbers.now g.0).field_end l.k (omega (arith, c.loop-k-test.true, g.1))) in ends'))
+at-d-requires c =
+    let l = c.loop-k in
+    let g = c.requires in
+    omega (arith, field-fits _ l.k l.place g.0 (omega arith) l.invariant.0)
 
 pub overflow_add-place : goal.overflow_add-place
-overflow_add-place c = omega (arith, (let ends' : (let l = c.loop-k in let xs = c.args.numbers.now in l.place + 1 + get_or xs l.place 0 < length xs) = let l = c.loop-k in let g = c.requires in rw l.invariant.0 ((facts c.args.numbers.now g.0).field_end l.k (omega (arith, c.loop-k-test.true, g.1))) in ends'), c.at-d.ensures)
+overflow_add-place c =
+    let l = c.loop-k in
+    let g = c.requires in
+    omega (arith, field-fits _ l.k l.place g.0 (omega arith) l.invariant.0, c.at-d.ensures)
 
 pub overflow_add-place-in-loop-k : goal.overflow_add-place-in-loop-k
-overflow_add-place-in-loop-k c = omega (arith, (let ends' : (let l = c.loop-k in let xs = c.args.numbers.now in l.place + 1 + get_or xs l.place 0 < length xs) = let l = c.loop-k in let g = c.requires in rw l.invariant.0 ((facts c.args.numbers.now g.0).field_end l.k (omega (arith, c.loop-k-test.true, g.1))) in ends'), c.at-d.ensures)
+overflow_add-place-in-loop-k c =
+    let l = c.loop-k in
+    let g = c.requires in
+    omega (arith, field-fits _ l.k l.place g.0 (omega arith) l.invariant.0, c.at-d.ensures)
 
 pub overflow_add-k : goal.overflow_add-k
 overflow_add-k c = omega arith

@@ -25,16 +25,25 @@ pub kind-requires : goal.kind-requires
 kind-requires c = c.requires.0
 
 pub overflow_add-place : goal.overflow_add-place
-overflow_add-place c = omega (arith, (let mask' : (let a = c.args in a.place + 3 + a.a < length a.numbers.now) = let a = c.args in let g = c.requires in mask-ends-at a.numbers.now a.r a.place g.0 a.a (sym c.kind.ensures ∙ c.if-kind-eq0.true) g.1 in mask'))
+overflow_add-place c =
+    let a = c.args in
+    let g = c.requires in
+    omega (arith, mask-ends-at a.numbers.now a.r a.place g.0 a.a (sym c.kind.ensures ∙ c.if-kind-eq0.true) g.1)
 
 pub overflow_add-place-then-kind-eq0 : goal.overflow_add-place-then-kind-eq0
-overflow_add-place-then-kind-eq0 c = omega (arith, (let mask' : (let a = c.args in a.place + 3 + a.a < length a.numbers.now) = let a = c.args in let g = c.requires in mask-ends-at a.numbers.now a.r a.place g.0 a.a (sym c.kind.ensures ∙ c.if-kind-eq0.true) g.1 in mask'))
+overflow_add-place-then-kind-eq0 c =
+    let a = c.args in
+    let g = c.requires in
+    omega (arith, mask-ends-at a.numbers.now a.r a.place g.0 a.a (sym c.kind.ensures ∙ c.if-kind-eq0.true) g.1)
 
 pub at-requires : goal.at-requires
-at-requires c = (let mask' : (let a = c.args in a.place + 3 + a.a < length a.numbers.now) = let a = c.args in let g = c.requires in mask-ends-at a.numbers.now a.r a.place g.0 a.a (sym c.kind.ensures ∙ c.if-kind-eq0.true) g.1 in mask')
+at-requires c =
+    let a = c.args in
+    let g = c.requires in
+    mask-ends-at a.numbers.now a.r a.place g.0 a.a (sym c.kind.ensures ∙ c.if-kind-eq0.true) g.1
 
 pub overflow_add-place-2 : goal.overflow_add-place-2
-overflow_add-place-2 c = omega (arith, (let one' : c.args.place + 3 < length c.args.numbers.now = rule-ends-at c.args.numbers.now c.args.r c.args.place c.requires.0 in one'))
+overflow_add-place-2 c = omega (arith, rule-ends-at c.args.numbers.now c.args.r c.args.place c.requires.0)
 
 pub at-requires-2 : goal.at-requires-2
-at-requires-2 c = (let one' : c.args.place + 3 < length c.args.numbers.now = rule-ends-at c.args.numbers.now c.args.r c.args.place c.requires.0 in one')
+at-requires-2 c = rule-ends-at c.args.numbers.now c.args.r c.args.place c.requires.0

@@ -9,7 +9,7 @@ pub fields_end-requires : goal.fields_end-requires
 fields_end-requires c = c.requires
 
 pub at-requires : goal.at-requires
-at-requires c = omega (arith, (let ends' : c.fields_end.result + 2 ≤ length c.args.numbers.now = rw c.fields_end.ensures (facts c.args.numbers.now c.requires).tail_end in ends'))
+at-requires c = omega (arith, c.fields_end.ensures, (facts c.args.numbers.now c.requires).tail_end)
 
 pub returns : goal.returns
 returns c = c.at.ensures ∙ ap (λ (i : ℕ). get_or c.args.numbers.now i 0) c.fields_end.ensures

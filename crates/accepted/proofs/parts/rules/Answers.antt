@@ -14,7 +14,7 @@ pub fields_end-requires : goal.fields_end-requires
 fields_end-requires c = c.requires
 
 pub overflow_add-fields_end : goal.overflow_add-fields_end
-overflow_add-fields_end c = omega (arith, (let ends' : c.fields_end.result + 2 ≤ length c.args.numbers.now = rw c.fields_end.ensures (facts c.args.numbers.now c.requires).tail_end in ends'))
+overflow_add-fields_end c = omega (arith, c.fields_end.ensures, (facts c.args.numbers.now c.requires).tail_end)
 
 pub at-requires : goal.at-requires
-at-requires c = omega (arith, (let ends' : c.fields_end.result + 2 ≤ length c.args.numbers.now = rw c.fields_end.ensures (facts c.args.numbers.now c.requires).tail_end in ends'))
+at-requires c = omega (arith, c.fields_end.ensures, (facts c.args.numbers.now c.requires).tail_end)

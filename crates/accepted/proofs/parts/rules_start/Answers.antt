@@ -10,7 +10,7 @@ pub fields_end-requires : goal.fields_end-requires
 fields_end-requires c = c.requires
 
 pub overflow_add-result : goal.overflow_add-result
-overflow_add-result c = omega (arith, (let ends' : c.fields_end.result + 2 ≤ length c.args.numbers.now = rw c.fields_end.ensures (facts c.args.numbers.now c.requires).tail_end in ends'))
+overflow_add-result c = omega (arith, c.fields_end.ensures, (facts c.args.numbers.now c.requires).tail_end)
 
 pub returns : goal.returns
 returns c = ap (λ (i : ℕ). i + 2) c.fields_end.ensures ∙ sym (rule-first c.args.numbers.now)

@@ -11,10 +11,19 @@ returns c =
     c.at.ensures ∙ ap (λ (i : ℕ). get_or a.numbers.now (i + 1 + a.v) 0) c.requires.0.at
 
 pub overflow_add-place : goal.overflow_add-place
-overflow_add-place c = omega (arith, (let ends' : (let a = c.args in a.place + 1 + a.v < length a.numbers.now) = let a = c.args in let g = c.requires in omega (arith, (facts a.numbers.now g.0.field.accepted).field_end a.f g.0.field.within, g.1, g.0.at) in ends'))
+overflow_add-place c =
+    let a = c.args in
+    let g = c.requires in
+    omega (arith, (facts a.numbers.now g.0.field.accepted).field_end a.f g.0.field.within, g.1, g.0.at)
 
 pub overflow_add-place-2 : goal.overflow_add-place-2
-overflow_add-place-2 c = omega (arith, (let ends' : (let a = c.args in a.place + 1 + a.v < length a.numbers.now) = let a = c.args in let g = c.requires in omega (arith, (facts a.numbers.now g.0.field.accepted).field_end a.f g.0.field.within, g.1, g.0.at) in ends'))
+overflow_add-place-2 c =
+    let a = c.args in
+    let g = c.requires in
+    omega (arith, (facts a.numbers.now g.0.field.accepted).field_end a.f g.0.field.within, g.1, g.0.at)
 
 pub at-requires : goal.at-requires
-at-requires c = (let ends' : (let a = c.args in a.place + 1 + a.v < length a.numbers.now) = let a = c.args in let g = c.requires in omega (arith, (facts a.numbers.now g.0.field.accepted).field_end a.f g.0.field.within, g.1, g.0.at) in ends')
+at-requires c =
+    let a = c.args in
+    let g = c.requires in
+    omega (arith, (facts a.numbers.now g.0.field.accepted).field_end a.f g.0.field.within, g.1, g.0.at)

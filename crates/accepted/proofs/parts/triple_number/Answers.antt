@@ -11,7 +11,7 @@ returns c =
     c.at.ensures ∙ ap (λ (i : ℕ). get_or a.numbers.now (i + 3) 0) c.requires.at
 
 pub overflow_add-place : goal.overflow_add-place
-overflow_add-place c = omega (arith, (let ends' : c.args.place + 3 < length c.args.numbers.now = triple-ends-at c.args.numbers.now c.args.t c.args.place c.requires in ends'))
+overflow_add-place c = omega (arith, triple-ends-at c.args.numbers.now c.args.t c.args.place c.requires)
 
 pub at-requires : goal.at-requires
-at-requires c = (let ends' : c.args.place + 3 < length c.args.numbers.now = triple-ends-at c.args.numbers.now c.args.t c.args.place c.requires in ends')
+at-requires c = triple-ends-at c.args.numbers.now c.args.t c.args.place c.requires

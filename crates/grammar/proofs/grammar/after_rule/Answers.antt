@@ -1,5 +1,4 @@
 use mathlib.Core.Path.{sym}
-use borrow.Author.Rules.{rules}
 use borrow.Author.Tests.{eq-eqb, ne_eqb}
 use Rattle.masks.specs.Pick.{pick_true, pick-false}
 use Rattle.grammar.proofs.grammar.after_rule.Goals as goal

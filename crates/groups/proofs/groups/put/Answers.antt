@@ -1,15 +1,25 @@
-use mathlib.Core.Path.{◌≡◌, refl, ap}
-use mathlib.Core.List.{[]}
-use Prim.Native.Nat.{◌+◌, ◌-◌, ◌/◌, ◌%◌}
-use native.Mathlib.Omega.{arith}
-use lib.ListN.{length, set}
+-- The loop stores the groups of x one by one: `Storing` says what is stored and what is to come.
+use Rattle.std.specs.Prelude.{◌≡◌, refl, List, [], ℕ, ◌+◌, ◌-◌, ◌/◌, ◌%◌, ◌<◌, ◌≤◌, length, set}
+use Rattle.std.proofs.Common.{ap, arith}
 use Rattle.groups.specs.Groups.{encode, encode_in, encode_in-last, encode_in-more, encode_in-none}
 use Rattle.groups.specs.Storing.{Storing, storing_none, storing_one, storing_done}
 use Rattle.groups.proofs.groups.put.Goals as goal
 
+-- a turn that stores the last group, and one that stores a group that continues
+module _ {out : List ℕ} {i : ℕ} {out₀ all : List ℕ} {from : ℕ} (left y : ℕ) where
+  last : 0 < left → y < 128 → Storing out i (encode_in left y) out₀ from all → Storing (set out i y) (i + 1) [] out₀ from all
+  last p h g = storing_one y (encode_in-last left y p h) g
+
+  more : 0 < left → 128 ≤ y → Storing out i (encode_in left y) out₀ from all
+      → Storing (set out i (y % 128 + 128)) (i + 1) (encode_in (left - 1) (y / 128)) out₀ from all
+  more p h g = storing_one _ (encode_in-more left y p h) g
+
 pub loop-left-init : goal.loop-left-init
 unfolding encode
 loop-left-init c = storing_none _ _ _
+
+pub loop-left-preserved : goal.loop-left-preserved
+loop-left-preserved c = more c.loop-left.left c.loop-left.y (omega arith) (omega arith) c.loop-left.invariant
 
 pub returns : goal.returns
 returns c =
@@ -18,38 +28,20 @@ returns c =
     let e : encode_in l.left l.y ≡ [] = rw z (encode_in-none l.y) in
     (omega (arith, l.invariant.ends, ap length e), storing_done e l.invariant)
 
-pub overflow_cast-output : goal.overflow_cast-output
-overflow_cast-output c = omega arith
-
 pub bounds-output-i : goal.bounds-output-i
-bounds-output-i c = omega (arith, ((let one' : (let l = c.loop-left in let a = c.args in Storing (set l.output l.i l.y) (l.i + 1) [] a.output.now a.place (encode a.x)) = let l = c.loop-left in storing_one l.y (encode_in-last l.left l.y (omega arith) (omega arith)) l.invariant in one')).ends, c.loop-left.invariant.size)
-
-pub overflow_add-result : goal.overflow_add-result
-overflow_add-result c = omega arith
-
-pub shape_of-output-then-y-lt128 : goal.shape_of-output-then-y-lt128
-shape_of-output-then-y-lt128 c = ((let one' : (let l = c.loop-left in let a = c.args in Storing (set l.output l.i l.y) (l.i + 1) [] a.output.now a.place (encode a.x)) = let l = c.loop-left in storing_one l.y (encode_in-last l.left l.y (omega arith) (omega arith)) l.invariant in one')).size
+bounds-output-i c =
+    let l = c.loop-left in
+    let g = last l.left l.y (omega arith) (omega arith) l.invariant in
+    omega (arith, g.ends, l.invariant.size)
 
 pub returns-then-y-lt128 : goal.returns-then-y-lt128
-returns-then-y-lt128 c = (omega (arith, ((let one' : (let l = c.loop-left in let a = c.args in Storing (set l.output l.i l.y) (l.i + 1) [] a.output.now a.place (encode a.x)) = let l = c.loop-left in storing_one l.y (encode_in-last l.left l.y (omega arith) (omega arith)) l.invariant in one')).ends), storing_done refl ((let one' : (let l = c.loop-left in let a = c.args in Storing (set l.output l.i l.y) (l.i + 1) [] a.output.now a.place (encode a.x)) = let l = c.loop-left in storing_one l.y (encode_in-last l.left l.y (omega arith) (omega arith)) l.invariant in one')))
-
-pub overflow_add-output : goal.overflow_add-output
-overflow_add-output c = omega arith
-
-pub overflow_cast-output-in-loop-left : goal.overflow_cast-output-in-loop-left
-overflow_cast-output-in-loop-left c = omega arith
+returns-then-y-lt128 c =
+    let l = c.loop-left in
+    let g = last l.left l.y (omega arith) (omega arith) l.invariant in
+    (omega (arith, g.ends), storing_done refl g)
 
 pub bounds-output-i-in-loop-left : goal.bounds-output-i-in-loop-left
-bounds-output-i-in-loop-left c = omega (arith, ((let more' : (let l = c.loop-left in let a = c.args in Storing (set l.output l.i (l.y % 128 + 128)) (l.i + 1) (encode_in (l.left - 1) (l.y / 128)) a.output.now a.place (encode a.x)) = let l = c.loop-left in storing_one _ (encode_in-more l.left l.y (omega arith) (omega arith)) l.invariant in more')).ends, c.loop-left.invariant.size)
-
-pub overflow_sub-left : goal.overflow_sub-left
-overflow_sub-left c = omega arith
-
-pub overflow_add-i : goal.overflow_add-i
-overflow_add-i c = omega arith
-
-pub loop-left-smaller : goal.loop-left-smaller
-loop-left-smaller c = omega arith
-
-pub shape_of-output : goal.shape_of-output
-shape_of-output c = c.loop-left.invariant.size
+bounds-output-i-in-loop-left c =
+    let l = c.loop-left in
+    let g = more l.left l.y (omega arith) (omega arith) l.invariant in
+    omega (arith, g.ends, l.invariant.size)

@@ -11,7 +11,9 @@ pub loop-j-init : goal.loop-j-init
 loop-j-init c = let p = c.requires in (search rules, initialize_start _ _ _ _ p.0 _ _ _ _ p.1)
 
 pub bounds-joined-j : goal.bounds-joined-j
-bounds-joined-j c = (let low' : c.loop-j.j < most_fields = let p = c.requires in (record-asks _ _ _ _ p.0 _ _ _ _ p.1 _ _ _ _ _ _ _ c.loop-j.invariant.1 c.loop-j-test.true).0 in low')
+bounds-joined-j c =
+    let p = c.requires in
+    (record-asks _ _ _ _ p.0 _ _ _ _ p.1 _ _ _ _ _ _ _ c.loop-j.invariant.1 c.loop-j-test.true).0
 
 pub record-requires : goal.record-requires
 record-requires c =
@@ -19,7 +21,9 @@ record-requires c =
     record-asks _ _ _ _ p.0 _ _ _ _ p.1 _ _ _ _ _ _ _ c.loop-j.invariant.1 c.loop-j-test.true
 
 pub bounds-d-j : goal.bounds-d-j
-bounds-d-j c = (let low' : c.loop-j.j < most_fields = let p = c.requires in (record-asks _ _ _ _ p.0 _ _ _ _ p.1 _ _ _ _ _ _ _ c.loop-j.invariant.1 c.loop-j-test.true).0 in low')
+bounds-d-j c =
+    let p = c.requires in
+    (record-asks _ _ _ _ p.0 _ _ _ _ p.1 _ _ _ _ _ _ _ c.loop-j.invariant.1 c.loop-j-test.true).0
 
 pub count_towards-requires : goal.count_towards-requires
 count_towards-requires c =
@@ -46,7 +50,9 @@ returns-then-r c =
 
 pub overflow_add-j : goal.overflow_add-j
 overflow_add-j c =
-    omega (arith, (let low' : c.loop-j.j < most_fields = let p = c.requires in (record-asks _ _ _ _ p.0 _ _ _ _ p.1 _ _ _ _ _ _ _ c.loop-j.invariant.1 c.loop-j-test.true).0 in low'))
+    let p = c.requires in
+    let a = record-asks _ _ _ _ p.0 _ _ _ _ p.1 _ _ _ _ _ _ _ c.loop-j.invariant.1 c.loop-j-test.true in
+    omega (arith, a.0)
 
 pub loop-j-preserved : goal.loop-j-preserved
 loop-j-preserved c =

@@ -1,6 +1,5 @@
 use mathlib.Core.Path.{sym, ap, ◌∙◌}
 use lib.Seq.{take_all}
-use native.Mathlib.Omega.{arith}
 use borrow.Author.Rules.{rules}
 use Rattle.ledger.specs.Occurrences.{occurrences}
 use Rattle.ledger.specs.Orders.{occurs_none, counted, passed}
@@ -8,9 +7,6 @@ use Rattle.judging.proofs.order.occurrences.Goals as goal
 
 pub loop-q-init : goal.loop-q-init
 loop-q-init c = (search rules, search rules, sym (occurs_none _ c.args.order.now))
-
-pub overflow_cast-g : goal.overflow_cast-g
-overflow_cast-g c = omega (arith, c.shared_slice_known-1.given c.loop-q.q)
 
 pub loop-q-preserved-then-g-f : goal.loop-q-preserved-then-g-f
 loop-q-preserved-then-g-f c =

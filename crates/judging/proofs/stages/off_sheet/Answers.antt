@@ -1,20 +1,23 @@
 use mathlib.Core.Path.{ap}
 use mathlib.Core.Bool.{not}
+use native.Mathlib.Omega.{arith}
 use Rattle.ledger.specs.Kinds.{change_choose, change_strike, change_withdraw-choice, change_withdraw-strike, change_none}
 use Rattle.session.specs.Form.{on-choice, on-strike}
 use Rattle.judging.proofs.stages.off_sheet.Goals as goal
 
 pub returns-in-1 : goal.returns-in-1
-returns-in-1 c = rw (change_choose _ _ _ c.in-1.keys1, on-choice) (ap not c.on_sheet.ensures.is)
+returns-in-1 c = rw (change_choose _ _ _ c.in-1.is, on-choice) (ap not c.on_sheet.ensures.is)
 
 pub returns-in-2 : goal.returns-in-2
-returns-in-2 c = rw (change_strike _ _ _ c.in-2.keys2, on-strike) (ap not c.on_sheet-in-2.ensures.is)
+returns-in-2 c = rw (change_strike _ _ _ c.in-2.is, on-strike) (ap not c.on_sheet-in-2.ensures.is)
 
 pub returns-in-3 : goal.returns-in-3
-returns-in-3 c = rw (change_withdraw-choice _ _ _ c.in-3.keys3, on-choice) (ap not c.on_sheet-in-3.ensures.is)
+returns-in-3 c = rw (change_withdraw-choice _ _ _ c.in-3.is, on-choice) (ap not c.on_sheet-in-3.ensures.is)
 
 pub returns-in-4 : goal.returns-in-4
-returns-in-4 c = rw (change_withdraw-strike _ _ _ c.in-4.keys4, on-strike) (ap not c.on_sheet-in-4.ensures.is)
+returns-in-4 c = rw (change_withdraw-strike _ _ _ c.in-4.is, on-strike) (ap not c.on_sheet-in-4.ensures.is)
 
 pub returns-in_default : goal.returns-in_default
-returns-in_default c = let n = c.in_default.rest in rw (change_none _ _ _ n.0.0.0.1 n.0.0.1 n.0.1 n.1)
+returns-in_default c =
+    let e = c.args.e in
+    rw (change_none e.kind e.field e.position (λ k. omega arith) (λ k. omega arith) (λ k. omega arith) (λ k. omega arith))

@@ -17,53 +17,84 @@ pub loop-r-init : goal.loop-r-init
 loop-r-init c = filled_start _ _ _ c.requires.0 c.requires.1 c.rules_start-place.ensures
 
 pub first-i-requires : goal.first-i-requires
-first-i-requires c = rule-at _ _ _ _ _ _ c.loop-r.invariant ((let within' : c.loop-r.r < rules_of c.args.numbers.now = rw c.rules-n.ensures at c.loop-r-test.true in within'))
+first-i-requires c = rule-at _ _ _ _ _ _ c.loop-r.invariant (rw c.rules-n.ensures at c.loop-r-test.true)
 
 pub second-j-requires : goal.second-j-requires
-second-j-requires c = rule-at _ _ _ _ _ _ c.loop-r.invariant ((let within' : c.loop-r.r < rules_of c.args.numbers.now = rw c.rules-n.ensures at c.loop-r-test.true in within'))
+second-j-requires c = rule-at _ _ _ _ _ _ c.loop-r.invariant (rw c.rules-n.ensures at c.loop-r-test.true)
 
 pub fill_rule-requires : goal.fill_rule-requires
 fill_rule-requires c =
     let i = c.loop-r.invariant in
-    (rule-at _ _ _ _ _ _ i ((let within' : c.loop-r.r < rules_of c.args.numbers.now = rw c.rules-n.ensures at c.loop-r-test.true in within')), c.first-i.ensures, c.second-j.ensures, i.room)
+    (rule-at _ _ _ _ _ _ i (rw c.rules-n.ensures at c.loop-r-test.true), c.first-i.ensures, c.second-j.ensures, i.room)
 
 pub offset_bounds-joined-i : goal.offset_bounds-joined-i
-offset_bounds-joined-i c = let x = (let room' : ((c.first-i.result < most_fields) × (c.second-j.result < most_fields) × (length c.loop-r.joined ≡ most_fields)) = let loop = c.loop-r in joined-room _ _ _ _ _ _ loop.invariant ((let within' : c.loop-r.r < rules_of c.args.numbers.now = rw c.rules-n.ensures at c.loop-r-test.true in within')) _ _ c.first-i.ensures c.second-j.ensures in room') in search rules
+offset_bounds-joined-i c =
+    let within = rw c.rules-n.ensures at c.loop-r-test.true in
+    let x = joined-room _ _ _ _ _ _ c.loop-r.invariant within _ _ c.first-i.ensures c.second-j.ensures in
+    search rules
 
 pub bounds-joined-i : goal.bounds-joined-i
-bounds-joined-i c = let x = (let room' : ((c.first-i.result < most_fields) × (c.second-j.result < most_fields) × (length c.loop-r.joined ≡ most_fields)) = let loop = c.loop-r in joined-room _ _ _ _ _ _ loop.invariant ((let within' : c.loop-r.r < rules_of c.args.numbers.now = rw c.rules-n.ensures at c.loop-r-test.true in within')) _ _ c.first-i.ensures c.second-j.ensures in room') in search rules
+bounds-joined-i c =
+    let within = rw c.rules-n.ensures at c.loop-r-test.true in
+    let x = joined-room _ _ _ _ _ _ c.loop-r.invariant within _ _ c.first-i.ensures c.second-j.ensures in
+    search rules
 
 pub one_bit-requires : goal.one_bit-requires
-one_bit-requires c = let x = (let room' : ((c.first-i.result < most_fields) × (c.second-j.result < most_fields) × (length c.loop-r.joined ≡ most_fields)) = let loop = c.loop-r in joined-room _ _ _ _ _ _ loop.invariant ((let within' : c.loop-r.r < rules_of c.args.numbers.now = rw c.rules-n.ensures at c.loop-r-test.true in within')) _ _ c.first-i.ensures c.second-j.ensures in room') in search rules
+one_bit-requires c =
+    let within = rw c.rules-n.ensures at c.loop-r-test.true in
+    let x = joined-room _ _ _ _ _ _ c.loop-r.invariant within _ _ c.first-i.ensures c.second-j.ensures in
+    search rules
 
 pub offset_bounds-joined-i-in-loop-r : goal.offset_bounds-joined-i-in-loop-r
-offset_bounds-joined-i-in-loop-r c = let x = (let room' : ((c.first-i.result < most_fields) × (c.second-j.result < most_fields) × (length c.loop-r.joined ≡ most_fields)) = let loop = c.loop-r in joined-room _ _ _ _ _ _ loop.invariant ((let within' : c.loop-r.r < rules_of c.args.numbers.now = rw c.rules-n.ensures at c.loop-r-test.true in within')) _ _ c.first-i.ensures c.second-j.ensures in room') in search rules
+offset_bounds-joined-i-in-loop-r c =
+    let within = rw c.rules-n.ensures at c.loop-r-test.true in
+    let x = joined-room _ _ _ _ _ _ c.loop-r.invariant within _ _ c.first-i.ensures c.second-j.ensures in
+    search rules
 
 pub bounds-joined-i-in-loop-r : goal.bounds-joined-i-in-loop-r
-bounds-joined-i-in-loop-r c = let x = (let room' : ((c.first-i.result < most_fields) × (c.second-j.result < most_fields) × (length c.loop-r.joined ≡ most_fields)) = let loop = c.loop-r in joined-room _ _ _ _ _ _ loop.invariant ((let within' : c.loop-r.r < rules_of c.args.numbers.now = rw c.rules-n.ensures at c.loop-r-test.true in within')) _ _ c.first-i.ensures c.second-j.ensures in room') in search rules
+bounds-joined-i-in-loop-r c =
+    let within = rw c.rules-n.ensures at c.loop-r-test.true in
+    let x = joined-room _ _ _ _ _ _ c.loop-r.invariant within _ _ c.first-i.ensures c.second-j.ensures in
+    search rules
 
 pub offset_bounds-joined-j : goal.offset_bounds-joined-j
-offset_bounds-joined-j c = let x = (let room' : ((c.first-i.result < most_fields) × (c.second-j.result < most_fields) × (length c.loop-r.joined ≡ most_fields)) = let loop = c.loop-r in joined-room _ _ _ _ _ _ loop.invariant ((let within' : c.loop-r.r < rules_of c.args.numbers.now = rw c.rules-n.ensures at c.loop-r-test.true in within')) _ _ c.first-i.ensures c.second-j.ensures in room') in search rules
+offset_bounds-joined-j c =
+    let within = rw c.rules-n.ensures at c.loop-r-test.true in
+    let x = joined-room _ _ _ _ _ _ c.loop-r.invariant within _ _ c.first-i.ensures c.second-j.ensures in
+    search rules
 
 pub bounds-joined-j : goal.bounds-joined-j
-bounds-joined-j c = let x = (let room' : ((c.first-i.result < most_fields) × (c.second-j.result < most_fields) × (length c.loop-r.joined ≡ most_fields)) = let loop = c.loop-r in joined-room _ _ _ _ _ _ loop.invariant ((let within' : c.loop-r.r < rules_of c.args.numbers.now = rw c.rules-n.ensures at c.loop-r-test.true in within')) _ _ c.first-i.ensures c.second-j.ensures in room') in search rules
+bounds-joined-j c =
+    let within = rw c.rules-n.ensures at c.loop-r-test.true in
+    let x = joined-room _ _ _ _ _ _ c.loop-r.invariant within _ _ c.first-i.ensures c.second-j.ensures in
+    search rules
 
 pub one_bit-requires-in-loop-r : goal.one_bit-requires-in-loop-r
-one_bit-requires-in-loop-r c = let x = (let room' : ((c.first-i.result < most_fields) × (c.second-j.result < most_fields) × (length c.loop-r.joined ≡ most_fields)) = let loop = c.loop-r in joined-room _ _ _ _ _ _ loop.invariant ((let within' : c.loop-r.r < rules_of c.args.numbers.now = rw c.rules-n.ensures at c.loop-r-test.true in within')) _ _ c.first-i.ensures c.second-j.ensures in room') in search rules
+one_bit-requires-in-loop-r c =
+    let within = rw c.rules-n.ensures at c.loop-r-test.true in
+    let x = joined-room _ _ _ _ _ _ c.loop-r.invariant within _ _ c.first-i.ensures c.second-j.ensures in
+    search rules
 
 pub offset_bounds-joined-j-in-loop-r : goal.offset_bounds-joined-j-in-loop-r
-offset_bounds-joined-j-in-loop-r c = let x = (let room' : ((c.first-i.result < most_fields) × (c.second-j.result < most_fields) × (length c.loop-r.joined ≡ most_fields)) = let loop = c.loop-r in joined-room _ _ _ _ _ _ loop.invariant ((let within' : c.loop-r.r < rules_of c.args.numbers.now = rw c.rules-n.ensures at c.loop-r-test.true in within')) _ _ c.first-i.ensures c.second-j.ensures in room') in search rules
+offset_bounds-joined-j-in-loop-r c =
+    let within = rw c.rules-n.ensures at c.loop-r-test.true in
+    let x = joined-room _ _ _ _ _ _ c.loop-r.invariant within _ _ c.first-i.ensures c.second-j.ensures in
+    search rules
 
 pub bounds-joined-j-in-loop-r : goal.bounds-joined-j-in-loop-r
-bounds-joined-j-in-loop-r c = let x = (let room' : ((c.first-i.result < most_fields) × (c.second-j.result < most_fields) × (length c.loop-r.joined ≡ most_fields)) = let loop = c.loop-r in joined-room _ _ _ _ _ _ loop.invariant ((let within' : c.loop-r.r < rules_of c.args.numbers.now = rw c.rules-n.ensures at c.loop-r-test.true in within')) _ _ c.first-i.ensures c.second-j.ensures in room') in search rules
+bounds-joined-j-in-loop-r c =
+    let within = rw c.rules-n.ensures at c.loop-r-test.true in
+    let x = joined-room _ _ _ _ _ _ c.loop-r.invariant within _ _ c.first-i.ensures c.second-j.ensures in
+    search rules
 
 pub after_rule-place-requires : goal.after_rule-place-requires
 after_rule-place-requires c =
-    rule-at _ _ _ _ _ _ c.loop-r.invariant ((let within' : c.loop-r.r < rules_of c.args.numbers.now = rw c.rules-n.ensures at c.loop-r-test.true in within'))
+    rule-at _ _ _ _ _ _ c.loop-r.invariant (rw c.rules-n.ensures at c.loop-r-test.true)
 
 pub loop-r-preserved : goal.loop-r-preserved
 loop-r-preserved c =
-    filled_next _ _ _ _ _ _ c.loop-r.invariant ((let within' : c.loop-r.r < rules_of c.args.numbers.now = rw c.rules-n.ensures at c.loop-r-test.true in within')) _ _ _ _ _ _ c.first-i.ensures c.second-j.ensures
+    filled_next _ _ _ _ _ _ c.loop-r.invariant (rw c.rules-n.ensures at c.loop-r-test.true) _ _ _ _ _ _
+    c.first-i.ensures c.second-j.ensures
     c.one_bit.ensures c.one_bit-in-loop-r.ensures c.after_rule-place.ensures c.fill_rule.ensures
 
 pub shape_of-rows : goal.shape_of-rows
@@ -72,5 +103,5 @@ shape_of-rows c = c.loop-r.invariant.sized
 pub returns : goal.returns
 returns c =
     let e : c.loop-r.r ≡ rules_of c.args.numbers.now =
-    (let a = c.rules-n.ensures in let k = c.loop-r.invariant.(let within' : in.loop-r.r < rules_of in.args.numbers.now = rw in.rules-n.ensures at in.loop-r-test.true in within') search rules) in
+    (let a = c.rules-n.ensures in let k = c.loop-r.invariant.within in search rules) in
     rw e at c.loop-r.invariant.holds

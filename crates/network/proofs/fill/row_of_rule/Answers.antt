@@ -43,22 +43,20 @@ one_bit-mask-requires c =
     omega arith
 
 pub loop-u-preserved-then-allowed : goal.loop-u-preserved-then-allowed
-loop-u-preserved-then-allowed c =
-    (
-      search rules,
-      rw (c.one_bit-mask.ensures, c.loop-u.invariant.1)
-          (sym (mask-more _ _ (allows-is _ _ _ _ _ _ _ c.requires.0 _ _ _ _ _ _ _ c.kind-kind.ensures c.number-c.ensures
-          c.setting_at-p.ensures c.setting_at-q.ensures c.allowed.ensures ∙ c.if-allowed.true))),
-    )
+loop-u-preserved-then-allowed c = (
+  search rules,
+  rw (c.one_bit-mask.ensures, c.loop-u.invariant.1)
+      (sym (mask-more _ _ (allows-is _ _ _ _ _ _ _ c.requires.0 _ _ _ _ _ _ _ c.kind-kind.ensures c.number-c.ensures
+      c.setting_at-p.ensures c.setting_at-q.ensures c.allowed.ensures ∙ c.if-allowed.true))),
+)
 
 pub loop-u-preserved : goal.loop-u-preserved
-loop-u-preserved c =
-    (
-      search rules,
-      rw c.loop-u.invariant.1
-          (sym (mask_skip _ _ (allows-is _ _ _ _ _ _ _ c.requires.0 _ _ _ _ _ _ _ c.kind-kind.ensures c.number-c.ensures
-          c.setting_at-p.ensures c.setting_at-q.ensures c.allowed.ensures ∙ c.if-allowed.false))),
-    )
+loop-u-preserved c = (
+  search rules,
+  rw c.loop-u.invariant.1
+      (sym (mask_skip _ _ (allows-is _ _ _ _ _ _ _ c.requires.0 _ _ _ _ _ _ _ c.kind-kind.ensures c.number-c.ensures
+      c.setting_at-p.ensures c.setting_at-q.ensures c.allowed.ensures ∙ c.if-allowed.false))),
+)
 
 pub returns : goal.returns
 returns c =

@@ -6,7 +6,7 @@ use Rattle.accepted.specs.Parts.{rule_allows}
 use Rattle.network.proofs.fill.row_of_rule.Given as goal
 
 abbrev pub invariant-loop-u : goal.invariant-loop-u
-invariant-loop-u l = (l.u ≤ l.n) × (l.mask ≡ mask_of l.u (λ l.u. rule_allows l.numbers l.r l.v l.u))
+invariant-loop-u l = (l.u ≤ l.n) × (l.mask ≡ mask_of l.u (λ u. rule_allows l.numbers l.r l.v u))
 
 abbrev pub decreases-loop-u : goal.decreases-loop-u
 decreases-loop-u l = l.n - l.u

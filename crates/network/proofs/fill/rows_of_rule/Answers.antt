@@ -25,12 +25,11 @@ bounds-rows-v c =
     search rules
 
 pub loop-v-preserved : goal.loop-v-preserved
-loop-v-preserved c =
-    (
-      search rules,
-      rows_next _ _ _ _ _ (let k = (counts-few _ _ _ _ _ _ _ c.requires.0).0 in let e = c.requires.1 in search rules)
-          c.row_of_rule.ensures c.loop-v.invariant.1,
-    )
+loop-v-preserved c = (
+  search rules,
+  rows_next _ _ _ _ _ (let k = (counts-few _ _ _ _ _ _ _ c.requires.0).0 in let e = c.requires.1 in search rules)
+      c.row_of_rule.ensures c.loop-v.invariant.1,
+)
 
 pub returns : goal.returns
 returns c = let e : c.loop-v.v ≡ c.args.n = search rules in rw e at c.loop-v.invariant.1

@@ -17,9 +17,10 @@ loop-t-init c = let p = c.requires in (next_start _ _ p.0 p.1, omega arith, bloc
 
 pub fill_triple-requires : goal.fill_triple-requires
 fill_triple-requires c =
-    let i = c.loop-t.invariant in (
+    let i = c.loop-t.invariant in
+    let z = i.2.sized in (
       next-at _ _ _ _ i.0 c.requires.2 c.loop-t-test.true,
-      (let room' : c.loop-t.base + triple_words ≤ length c.loop-t.triples = let l = c.loop-t-test.true in let e = c.loop-t.invariant.1 in let z = c.loop-t.invariant.2.sized in let p = c.requires.3 in omega arith in room'),
+      omega arith,
       (let z : ZerosFrom c.loop-t.base c.loop-t.triples = rw i.1 i.2.rest in z),
     )
 
@@ -30,8 +31,8 @@ overflow_add-place-in-loop-t c =
 
 pub overflow_add-base : goal.overflow_add-base
 overflow_add-base c =
-    let k = (let room' : c.loop-t.base + triple_words ≤ length c.loop-t.triples = let l = c.loop-t-test.true in let e = c.loop-t.invariant.1 in let z = c.loop-t.invariant.2.sized in let p = c.requires.3 in omega arith in room') in
     let z = c.loop-t.invariant.2.sized in
+    let k : c.loop-t.base + triple_words ≤ length c.loop-t.triples = omega arith in
     search rules
 
 pub loop-t-preserved : goal.loop-t-preserved

@@ -19,14 +19,12 @@ thirds-requires c = c.requires.1
 
 pub overflow_add-triples : goal.overflow_add-triples
 overflow_add-triples c =
-    let lent = c.before.before.before.before.well_formed.1.1.1.1.1.1.1.1 in
     let e = c.count_at-n.ensures in
     let z = c.loop-v.invariant.1.sized in
     search rules
 
 pub offset_bounds-triples-base : goal.offset_bounds-triples-base
 offset_bounds-triples-base c =
-    let lent = c.before.before.before.before.well_formed.1.1.1.1.1.1.1.1 in
     let e = c.count_at-n.ensures in
     let z = c.loop-v.invariant.1.sized in
     search rules

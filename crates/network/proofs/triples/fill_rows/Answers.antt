@@ -34,37 +34,40 @@ loop-v-init c = (search rules, omega arith, triple-rows-start _ _ _ _)
 pub setting_at-p-requires : goal.setting_at-p-requires
 setting_at-p-requires c =
     let p = c.requires in
-    (at_first _ _ _ _ _ _ p.0 p.1 p.2 p.3 _ c.field_start-at_i.ensures, ((let within' : ((c.loop-v.v < count_of c.args.numbers.now c.args.i) × (count_of c.args.numbers.now c.args.i ≤ most_settings) × (count_of c.args.numbers.now c.args.j ≤ most_settings)) = let p = c.requires in let few = counts-low _ _ _ _ _ _ p.0 p.1 p.2 p.3 in (rw c.count_at-n.ensures at c.loop-v-test.true, few.0, few.1) in within')).0)
+    (at_first _ _ _ _ _ _ p.0 p.1 p.2 p.3 _ c.field_start-at_i.ensures, rw c.count_at-n.ensures at c.loop-v-test.true)
 
 pub fill_row-requires : goal.fill_row-requires
 fill_row-requires c =
     let p = c.requires in
-    let x = (let within' : ((c.loop-v.v < count_of c.args.numbers.now c.args.i) × (count_of c.args.numbers.now c.args.i ≤ most_settings) × (count_of c.args.numbers.now c.args.j ≤ most_settings)) = let p = c.requires in let few = counts-low _ _ _ _ _ _ p.0 p.1 p.2 p.3 in (rw c.count_at-n.ensures at c.loop-v-test.true, few.0, few.1) in within') in
+    let few = counts-low _ _ _ _ _ _ p.0 p.1 p.2 p.3 in
+    let within = rw c.count_at-n.ensures at c.loop-v-test.true in
     let y = c.loop-v.invariant.1 in
     let z = c.loop-v.invariant.2.sized in
     let room = p.4 in (
       at_second _ _ _ _ _ _ p.0 p.1 p.2 p.3 _ c.field_start-at_j.ensures,
       at-third _ _ _ _ _ _ p.0 p.1 p.2 p.3 _ c.field_start-at_k.ensures,
-      omega (arith, x.0, x.1, x.2),
+      omega (arith, within, few.0, few.1),
     )
 
 pub overflow_add-row : goal.overflow_add-row
 overflow_add-row c =
-    let x = (let within' : ((c.loop-v.v < count_of c.args.numbers.now c.args.i) × (count_of c.args.numbers.now c.args.i ≤ most_settings) × (count_of c.args.numbers.now c.args.j ≤ most_settings)) = let p = c.requires in let few = counts-low _ _ _ _ _ _ p.0 p.1 p.2 p.3 in (rw c.count_at-n.ensures at c.loop-v-test.true, few.0, few.1) in within') in
+    let p = c.requires in
+    let few = counts-low _ _ _ _ _ _ p.0 p.1 p.2 p.3 in
+    let within = rw c.count_at-n.ensures at c.loop-v-test.true in
     let y = c.loop-v.invariant.1 in
-    let room = c.requires.4 in
-    let lent = c.well_formed.1.1.1.1.1.1.1 in
+    let room = p.4 in
     search rules
 
 pub loop-v-preserved : goal.loop-v-preserved
 loop-v-preserved c =
     let p = c.requires in
-    let x = (let within' : ((c.loop-v.v < count_of c.args.numbers.now c.args.i) × (count_of c.args.numbers.now c.args.i ≤ most_settings) × (count_of c.args.numbers.now c.args.j ≤ most_settings)) = let p = c.requires in let few = counts-low _ _ _ _ _ _ p.0 p.1 p.2 p.3 in (rw c.count_at-n.ensures at c.loop-v-test.true, few.0, few.1) in within') in
+    let few = counts-low _ _ _ _ _ _ p.0 p.1 p.2 p.3 in
+    let within = rw c.count_at-n.ensures at c.loop-v-test.true in
     let y = c.loop-v.invariant.1 in (
       search rules,
       omega arith,
       triple-rows-next _ _ _ _ _ _ _ _ _ _ _ _ _ p.1 p.2 p.3 c.triple_number-c.ensures
-          c.setting_at-p.ensures y x.0 x.2 p.5 c.loop-v.invariant.2 c.fill_row.ensures,
+          c.setting_at-p.ensures y within few.1 p.5 c.loop-v.invariant.2 c.fill_row.ensures,
     )
 
 pub shape_of-triples : goal.shape_of-triples

@@ -10,17 +10,23 @@ use borrow.Author.Rules.{rules}
 use Rattle.network.proofs.triples.fill_triple.Goals as goal
 
 pub overflow_cast-triples : goal.overflow_cast-triples
-overflow_cast-triples c = let x = (let low' : ((c.triple_first-i.result < most_fields) × (c.triple_second-j.result < most_fields) × (c.triple_third-k.result < most_fields)) = triple-fields _ _ _ _ _ _ c.requires.0 c.triple_first-i.ensures c.triple_second-j.ensures c.triple_third-k.ensures in low') in search rules
+overflow_cast-triples c =
+    let x = triple-fields _ _ _ _ _ _ c.requires.0 c.triple_first-i.ensures c.triple_second-j.ensures c.triple_third-k.ensures in
+    search rules
 
 pub overflow_cast-triples-2 : goal.overflow_cast-triples-2
-overflow_cast-triples-2 c = let x = (let low' : ((c.triple_first-i.result < most_fields) × (c.triple_second-j.result < most_fields) × (c.triple_third-k.result < most_fields)) = triple-fields _ _ _ _ _ _ c.requires.0 c.triple_first-i.ensures c.triple_second-j.ensures c.triple_third-k.ensures in low') in search rules
+overflow_cast-triples-2 c =
+    let x = triple-fields _ _ _ _ _ _ c.requires.0 c.triple_first-i.ensures c.triple_second-j.ensures c.triple_third-k.ensures in
+    search rules
 
 pub bounds-triples-base-2 : goal.bounds-triples-base-2
 bounds-triples-base-2 c =
     second-room c.args.triples.now _ c.triple_first-i.result c.requires.1
 
 pub overflow_cast-triples-3 : goal.overflow_cast-triples-3
-overflow_cast-triples-3 c = let x = (let low' : ((c.triple_first-i.result < most_fields) × (c.triple_second-j.result < most_fields) × (c.triple_third-k.result < most_fields)) = triple-fields _ _ _ _ _ _ c.requires.0 c.triple_first-i.ensures c.triple_second-j.ensures c.triple_third-k.ensures in low') in search rules
+overflow_cast-triples-3 c =
+    let x = triple-fields _ _ _ _ _ _ c.requires.0 c.triple_first-i.ensures c.triple_second-j.ensures c.triple_third-k.ensures in
+    search rules
 
 pub bounds-triples-base-3 : goal.bounds-triples-base-3
 bounds-triples-base-3 c =

@@ -16,22 +16,23 @@ pub loop-t-init : goal.loop-t-init
 loop-t-init c = let p = c.requires in (next_start _ _ p.0 p.1, have-start _)
 
 pub triple_first-i-requires : goal.triple_first-i-requires
-triple_first-i-requires c = (let here' : TripleAt c.args.numbers.now c.loop-t.t c.loop-t.place = next-at _ _ _ _ c.loop-t.invariant.0 c.requires.2 c.loop-t-test.true in here')
+triple_first-i-requires c = next-at _ _ _ _ c.loop-t.invariant.0 c.requires.2 c.loop-t-test.true
 
 pub triple_second-j-requires : goal.triple_second-j-requires
-triple_second-j-requires c = (let here' : TripleAt c.args.numbers.now c.loop-t.t c.loop-t.place = next-at _ _ _ _ c.loop-t.invariant.0 c.requires.2 c.loop-t-test.true in here')
+triple_second-j-requires c = next-at _ _ _ _ c.loop-t.invariant.0 c.requires.2 c.loop-t-test.true
 
 pub triple_third-k-requires : goal.triple_third-k-requires
-triple_third-k-requires c = (let here' : TripleAt c.args.numbers.now c.loop-t.t c.loop-t.place = next-at _ _ _ _ c.loop-t.invariant.0 c.requires.2 c.loop-t-test.true in here')
+triple_third-k-requires c = next-at _ _ _ _ c.loop-t.invariant.0 c.requires.2 c.loop-t-test.true
 
 pub one_bit-requires : goal.one_bit-requires
 one_bit-requires c =
-    let k = triple-low _ _ _ ((let here' : TripleAt c.args.numbers.now c.loop-t.t c.loop-t.place = next-at _ _ _ _ c.loop-t.invariant.0 c.requires.2 c.loop-t-test.true in here')) in
+    let k = triple-low _ _ _ (next-at _ _ _ _ c.loop-t.invariant.0 c.requires.2 c.loop-t-test.true) in
     omega arith
 
 pub add_to_three-requires : goal.add_to_three-requires
 add_to_three-requires c =
-    let x = (let low' : ((c.triple_first-i.result < most_fields) × (c.triple_second-j.result < most_fields) × (c.triple_third-k.result < most_fields)) = triple-fields _ _ _ _ _ _ ((let here' : TripleAt c.args.numbers.now c.loop-t.t c.loop-t.place = next-at _ _ _ _ c.loop-t.invariant.0 c.requires.2 c.loop-t-test.true in here')) c.triple_first-i.ensures c.triple_second-j.ensures c.triple_third-k.ensures in low') in
+    let here = next-at _ _ _ _ c.loop-t.invariant.0 c.requires.2 c.loop-t-test.true in
+    let x = triple-fields _ _ _ _ _ _ here c.triple_first-i.ensures c.triple_second-j.ensures c.triple_third-k.ensures in
     let l = c.loop-t.invariant.1.long in
     search rules
 
@@ -41,12 +42,11 @@ overflow_add-place-in-loop-t c =
     search rules
 
 pub loop-t-preserved : goal.loop-t-preserved
-loop-t-preserved c =
-    (
-      next-after _ _ _ _ c.loop-t.invariant.0 c.requires.2 c.loop-t-test.true,
-      have-next _ _ _ _ _ _ _ _ c.triple_first-i.ensures c.triple_second-j.ensures
-          c.triple_third-k.ensures c.one_bit.ensures c.add_to_three.ensures c.loop-t.invariant.1,
-    )
+loop-t-preserved c = (
+  next-after _ _ _ _ c.loop-t.invariant.0 c.requires.2 c.loop-t-test.true,
+  have-next _ _ _ _ _ _ _ _ c.triple_first-i.ensures c.triple_second-j.ensures
+      c.triple_third-k.ensures c.one_bit.ensures c.add_to_three.ensures c.loop-t.invariant.1,
+)
 
 pub returns : goal.returns
 returns c =

@@ -7,7 +7,8 @@ use Rattle.sheet.proofs.reading.check_with.Given as goal
 
 abbrev pub invariant-loop-place : goal.invariant-loop-place
 invariant-loop-place l =
-    Going l.state l.counts (items_from l.sheet l.place) (of_bytes l.sheet) l.count (numbers (items_from l.sheet l.place)) (numbers (of_bytes l.sheet))
+    let left = items_from l.sheet l.place in
+    Going l.state l.counts left (of_bytes l.sheet) l.count (numbers left) (numbers (of_bytes l.sheet))
     × (length l.counts ≡ length l.initial.counts) × (l.place ≤ length l.sheet) × (l.count ≤ l.place)
 
 abbrev pub decreases-loop-place : goal.decreases-loop-place

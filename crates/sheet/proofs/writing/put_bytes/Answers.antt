@@ -1,7 +1,5 @@
-use mathlib.Core.Path.{ap}
-use Prim.Native.Nat.{◌+◌}
-use native.Mathlib.Omega.{arith}
-use lib.ListN.{length, drop, get_or, length-append}
+use Rattle.std.specs.Prelude.{ℕ, ◌+◌, length, drop, get_or}
+use Rattle.std.proofs.Common.{ap, arith, length-append}
 use Rattle.groups.specs.Groups.{encode}
 use Rattle.groups.specs.Storing.{storing_none, storing_part, storing_done}
 use Rattle.sheet.specs.Sources.{bytes_of}
@@ -26,21 +24,3 @@ pub returns : goal.returns
 returns c =
     let l = c.loop-k in
     storing_done (bytes_end c.args.numbers.now l.k (omega arith)) l.invariant.0
-
-pub loop-k-init : goal.loop-k-init
-loop-k-init c = (storing_none _ _ _, omega arith)
-
-pub offset_bounds-numbers-k : goal.offset_bounds-numbers-k
-offset_bounds-numbers-k c = omega arith
-
-pub bounds-numbers-k : goal.bounds-numbers-k
-bounds-numbers-k c = omega arith
-
-pub overflow_add-k : goal.overflow_add-k
-overflow_add-k c = omega arith
-
-pub loop-k-smaller : goal.loop-k-smaller
-loop-k-smaller c = omega arith
-
-pub shape_of-output : goal.shape_of-output
-shape_of-output c = c.loop-k.invariant.0.size
