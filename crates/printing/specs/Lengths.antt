@@ -1,4 +1,4 @@
--- The parts of the text one after the other, and their lengths: a text has at most `textBytes` bytes. Assumes nothing.
+-- The parts of the text one after the other, and their lengths: a text has at most `text_bytes` bytes. Assumes nothing.
 use Rattle.std.specs.Prelude.{◌≡◌, Bool, true, false, ℕ, zero, suc, ◌+◌, ◌*◌, ◌^◌, ◌≤◌, ◌<◌, eqb, length, get_or}
 use Rattle.std.proofs.Math.Path.{refl, ap}
 use Rattle.std.proofs.Common.{sym, ◌∙◌, add-one, arith, length-append, eqb-true, eq-eqb, ne_eqb}

@@ -18,8 +18,10 @@ put_line-next-requires c =
     let n = c.fields-n.ensures in
     let t = c.loop-f-test in
     let m = lines-length c.args.numbers.now c.args.offers.now c.requires.0 l.f (omega (arith, n, l.invariant.1)) in
-    let g = l.invariant.0 in
-    (record { accepted = c.requires.0; within = omega (arith, n, t) }, omega (arith, m, t, l.invariant.2, g.ends, puts_size g, c.requires.1))
+    let g = l.invariant.0 in (
+      record { accepted = c.requires.0; within = omega (arith, n, t) },
+      omega (arith, m, t, l.invariant.2, g.ends, puts_size g, c.requires.1),
+    )
 
 pub loop-f-preserved : goal.loop-f-preserved
 loop-f-preserved c =
@@ -36,21 +38,3 @@ returns c =
     let l = c.loop-f in
     let n = c.fields-n.ensures in
     puts_as (ap (λ (f : ℕ). lines a.numbers.now a.offers.now f) (omega (arith, n, c.loop-f-test, l.invariant.1))) l.invariant.0
-
-pub fields-n-requires : goal.fields-n-requires
-fields-n-requires c = c.requires.0
-
-pub offset_bounds-offers-f : goal.offset_bounds-offers-f
-offset_bounds-offers-f c = omega arith
-
-pub bounds-offers-f : goal.bounds-offers-f
-bounds-offers-f c = omega arith
-
-pub overflow_add-f : goal.overflow_add-f
-overflow_add-f c = omega arith
-
-pub loop-f-smaller : goal.loop-f-smaller
-loop-f-smaller c = omega arith
-
-pub shape_of-output : goal.shape_of-output
-shape_of-output c = puts_size c.loop-f.invariant.0

@@ -37,15 +37,3 @@ returns c =
     let d = c.count-d.ensures in
     puts_as (ap (λ (v : ℕ). blank_each (offered a.numbers.now a.f a.mask v)) (omega (arith, d, c.loop-v-test, l.invariant.1)))
     l.invariant.0
-
-pub count-d-requires : goal.count-d-requires
-count-d-requires c = c.requires.0
-
-pub overflow_add-v : goal.overflow_add-v
-overflow_add-v c = omega arith
-
-pub loop-v-smaller : goal.loop-v-smaller
-loop-v-smaller c = omega arith
-
-pub shape_of-output : goal.shape_of-output
-shape_of-output c = puts_size c.loop-v.invariant.0

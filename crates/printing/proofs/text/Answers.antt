@@ -19,5 +19,5 @@ returns c =
     let xs = c.args.numbers.now in
     let o = c.args.offers.now in
     let e = text-refused xs c.args.number o c.if-number-eq0.false in
-    let g = puts_front (puts_as (sym e) c.before.before.Put-refused.ensures) in
+    let g = puts_front (puts_as (sym e) c.put_refused.ensures) in
     (g.0, g.1, rw g.0 (text-length xs c.args.number o c.requires.0 c.ranges.number.fits))

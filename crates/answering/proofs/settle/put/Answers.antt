@@ -51,7 +51,7 @@ shape_of-offers c = c.loop-f.invariant.1.sized
 pub returns : goal.returns
 returns c =
     let e : c.loop-f.f ≡ c.args.n = search rules in
-    let l : length c.args.t2 ≡ most_fields = search rules in
+    let l : length c.args.masks ≡ most_fields = search rules in
     let y = c.requires.0 in
     let x = c.requires.1 in
     rw e at (putting_end _ _ _ _ (omega arith) (omega arith) c.loop-f.invariant.1)

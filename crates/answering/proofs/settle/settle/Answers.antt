@@ -7,7 +7,10 @@ run-requires c =
     let t = c.turned-turned.ensures in
     let f = c.forward-forward.ensures in
     let m = c.start-m.ensures in
-    (rw (f, t) (settle-asks _ _ _ _ _ _ _ _ c.requires _ _ m), c.requires.enough.memory-room)
+    record {
+      run_asks = rw (f, t) (settle-asks _ _ _ _ _ _ _ _ c.requires _ _ m);
+      memory_words_in_bounds = c.requires.enough.memory-room;
+    }
 
 pub returns-then-run : goal.returns-then-run
 unfolding view

@@ -8,7 +8,7 @@ pub returns-then-changed-eq0 : goal.returns-then-changed-eq0
 returns-then-changed-eq0 c = sym (back_none _ _ _ _ _ _ c.if-changed-eq0.true)
 
 pub returns-then-net-ge-WHOLE_REACH : goal.returns-then-net-ge-WHOLE_REACH
-returns-then-net-ge-WHOLE_REACH c = sym (back_all _ _ _ _ _ _ c.if-changed-eq0.false (let h = c.if-net-ge-WHOLE_REACH.true in omega arith))
+returns-then-net-ge-WHOLE_REACH c = sym (back_all _ _ _ _ _ _ c.if-changed-eq0.false (omega arith))
 
 pub loop-left-init : goal.loop-left-init
 loop-left-init c = backing_start _ _ _ _ _ c.requires
@@ -21,7 +21,11 @@ bounds-net-f c =
     omega arith
 
 pub offset_bounds-net-f : goal.offset_bounds-net-f
-offset_bounds-net-f c = let l = element-copy-out-clear-bit c in omega arith
+offset_bounds-net-f c =
+    let p = c.requires in
+    let few = p.few in
+    let low = changed-low _ _ _ _ _ p _ (c.loop-left.invariant.lefts _ c.lowest_bit-f.ensures.0.set) in
+    omega arith
 
 pub loop-left-smaller : goal.loop-left-smaller
 loop-left-smaller c = rw c.clear_bit-left.ensures (clear-lt _ _ c.lowest_bit-f.ensures.0.set)
@@ -34,4 +38,4 @@ loop-left-preserved c =
 pub returns : goal.returns
 returns c =
     rw (backing_end _ _ _ _ _ c.requires _ _ c.loop-left-test.false c.loop-left.invariant)
-    (sym (back-others _ _ _ _ _ _ c.if-changed-eq0.false (let h = c.if-net-ge-WHOLE_REACH.false in omega arith)))
+    (sym (back-others _ _ _ _ _ _ c.if-changed-eq0.false (omega arith)))

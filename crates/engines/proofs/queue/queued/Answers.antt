@@ -9,30 +9,32 @@ use Rattle.engines.specs.Queue.{turning_start, turning_turn, turning_less}
 use Rattle.engines.proofs.queue.queued.Goals as goal
 
 pub begin-requires : goal.begin-requires
-begin-requires c = let p = c.requires in (p.0.0, p.1.1)
+begin-requires c = record { start_asks = c.requires.run_asks.0; blank = c.requires.blank }
 
 pub returns-then-begin : goal.returns-then-begin
 returns-then-begin c = begun-engine _ _ _ _ _ (rw c.if-begin.true at c.begin.ensures.0)
 
 pub loop-queue-init : goal.loop-queue-init
-loop-queue-init c =
-    (
-      turning_start _ _ _ _ _ (c.begin.ensures.0.live c.if-begin.false),
-      store-start _ _ _ _ c.requires.1.0,
-      refl,
-      c.begin.ensures.1 c.if-begin.false,
-    )
+loop-queue-init c = (
+  turning_start _ _ _ _ _ (c.begin.ensures.0.live c.if-begin.false),
+  store-start _ _ _ _ c.requires.memory_words_in_bounds,
+  refl,
+  c.begin.ensures.1 c.if-begin.false,
+)
 
 pub round-r-requires : goal.round-r-requires
 round-r-requires c =
     let i = c.loop-queue.invariant in
-    let p = c.requires in
-    let live = begun-asks _ _ _ _ _ _ _ p.0.0 (rw c.if-begin.false at c.begin.ensures.0) in
-    ((kept-asks _ _ _ _ _ live i.0.kept.1, i.1), ((p.0.1, i.0.small), i.3))
+    let p = c.requires.run_asks in
+    let live = begun-asks _ _ _ _ _ _ _ p.0 (rw c.if-begin.false at c.begin.ensures.0) in record {
+      live_asks = (kept-asks _ _ _ _ _ live i.0.kept.1, i.1);
+      lent = (p.1, i.0.small);
+      counted = i.3;
+    }
 
 pub shape_of-memory-then-r : goal.shape_of-memory-then-r
 shape_of-memory-then-r c =
-    c.round-r.auto.1.1.0 ∙ c.loop-queue.invariant.2
+    c.round-r.auto.memory ∙ c.loop-queue.invariant.2
 
 pub returns-then-r : goal.returns-then-r
 returns-then-r c =
@@ -41,7 +43,7 @@ returns-then-r c =
 
 pub loop-queue-smaller : goal.loop-queue-smaller
 loop-queue-smaller c =
-    let p = c.requires.0 in
+    let p = c.requires.run_asks in
     turning_less _ _ _ _ _ _ _ _ _ c.loop-queue.invariant.0 (rw c.if-r.false at c.round-r.ensures.0)
     (fields-small _ _ _ _ _ _ p.0.wired.few p.1.selected-fields) c.loop-queue-test.true
 
@@ -50,7 +52,7 @@ loop-queue-preserved c =
     let i = c.loop-queue.invariant in (
       turning_turn _ _ _ _ _ _ _ _ _ i.0 (rw c.if-r.false at c.round-r.ensures.0),
       c.round-r.ensures.1 c.if-r.false,
-      c.round-r.auto.1.1.0 ∙ i.2,
+      c.round-r.auto.memory ∙ i.2,
       c.round-r.ensures.2 c.if-r.false,
     )
 

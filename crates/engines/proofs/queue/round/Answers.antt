@@ -11,27 +11,25 @@ use Rattle.engines.proofs.queue.round.Goals as goal
 pub loop-q-init : goal.loop-q-init
 loop-q-init c =
     let p = c.requires in
-    (search rules, (0, waiting_start _ _ _ _ _ _ p.0.0.live p.1.0.1), p.0.1, refl, p.1.1)
+    (search rules, (0, waiting_start _ _ _ _ _ _ p.live_asks.0.live p.lent.1), p.live_asks.1, refl, p.counted)
 
 pub field_at-f-requires : goal.field_at-f-requires
 field_at-f-requires c =
     let p = c.requires in
-    order-low _ _ _ _ _ _ _ _ p.1.0.0 p.0.0.wired.few _ c.loop-q-test.true
+    order-low _ _ _ _ _ _ _ _ p.lent.0 p.live_asks.0.wired.few _ c.loop-q-test.true
 
 pub visit-r-requires : goal.visit-r-requires
 visit-r-requires c =
-    let p = c.requires in (
-      (kept-asks _ _ _ _ _ p.0.0 c.loop-q.invariant.1.1.kept, c.loop-q.invariant.2),
-      (
-        rw c.field_at-f.ensures.0 (visit-asks _ _ _ _ _ _ _ _ p.1.0.0 p.0.0.wired.few _
-            c.loop-q-test.true),
-        c.loop-q.invariant.4,
-      ),
-    )
+    let p = c.requires in record {
+      live_asks = (kept-asks _ _ _ _ _ p.live_asks.0 c.loop-q.invariant.1.1.kept, c.loop-q.invariant.2);
+      f_lt_fields = rw c.field_at-f.ensures.0
+          (visit-asks _ _ _ _ _ _ _ _ p.lent.0 p.live_asks.0.wired.few _ c.loop-q-test.true);
+      counted = c.loop-q.invariant.4;
+    }
 
 pub shape_of-memory-then-r : goal.shape_of-memory-then-r
 shape_of-memory-then-r c =
-    c.visit-r.auto.1.1.0 ∙ c.loop-q.invariant.3
+    c.visit-r.auto.memory ∙ c.loop-q.invariant.3
 
 pub returns-then-r : goal.returns-then-r
 unfolding problem_of
@@ -40,7 +38,7 @@ returns-then-r c =
     let w = c.loop-q.invariant.1.1 in
     let e = c.field_at-f.ensures.0 in
     let on = w.small _ (rw e at (sym c.has_bit.ensures ∙ c.if-has_bit.true)) in
-    let in-mask = visit-selected _ _ _ _ _ _ _ _ p.1.0.0 p.0.0.wired.few _ c.loop-q-test.true on in
+    let in-mask = visit-selected _ _ _ _ _ _ _ _ p.lent.0 p.live_asks.0.wired.few _ c.loop-q-test.true on in
     let visited = rw e at c.visit-r.ensures.0 in
     (waiting_none _ _ _ _ _ _ _ _ _ _ w in-mask _ _ _ visited c.if-r.true _, (λ z. absurd (true≢false z)), λ z. absurd (true≢false z))
 
@@ -50,7 +48,7 @@ put_back-queue-requires c =
     let p = c.requires in
     let marks = c.visit-r.ensures.0.marks c.if-r.false in
     rw c.clear_bit.ensures
-    (back-asks _ _ p.0.0.wired.few p.1.0.0.hoods _ _ _ p.1.0.0.selected-fields
+    (back-asks _ _ p.live_asks.0.wired.few p.lent.0.hoods _ _ _ p.lent.0.selected-fields
     (λ v e. c.loop-q.invariant.1.1.small v (clear_within _ _ v e)) marks)
 
 pub loop-q-preserved-then-has_bit : goal.loop-q-preserved-then-has_bit
@@ -60,17 +58,17 @@ loop-q-preserved-then-has_bit c =
     let w = c.loop-q.invariant.1.1 in
     let e = c.field_at-f.ensures.0 in
     let on = w.small _ (rw e at (sym c.has_bit.ensures ∙ c.if-has_bit.true)) in
-    let in-mask = visit-selected _ _ _ _ _ _ _ _ p.1.0.0 p.0.0.wired.few _ c.loop-q-test.true on in
+    let in-mask = visit-selected _ _ _ _ _ _ _ _ p.lent.0 p.live_asks.0.wired.few _ c.loop-q-test.true on in
     let visited = rw e at c.visit-r.ensures.0 in
     let back = rw (c.clear_bit.ensures, e) at c.put_back-queue.ensures in (
       search rules,
       (
         _,
-        waiting_turn _ _ _ _ _ _ _ _ _ _ w in-mask _ _ _ visited c.if-r.false p.0.0.wired.few
-            p.1.0.0.selected-fields p.1.0.0.hoods _ _ back,
+        waiting_turn _ _ _ _ _ _ _ _ _ _ w in-mask _ _ _ visited c.if-r.false p.live_asks.0.wired.few
+            p.lent.0.selected-fields p.lent.0.hoods _ _ back,
       ),
       c.visit-r.ensures.1 c.if-r.false,
-      c.visit-r.auto.1.1.0 ∙ c.loop-q.invariant.3,
+      c.visit-r.auto.memory ∙ c.loop-q.invariant.3,
       c.visit-r.ensures.2 c.if-r.false,
     )
 
@@ -86,7 +84,7 @@ shape_of-memory c = c.loop-q.invariant.3
 pub returns : goal.returns
 unfolding problem_of
 returns c =
-    let p = c.requires.1.0.0 in
+    let p = c.requires.lent.0 in
     let i = c.loop-q.invariant in
     let end = waiting_end _ _ _ _ _ _ _ _ _ _ p.selected-fields p.visits c.loop-q-test.false i.1.1 in
     (end, (λ _. i.2), λ _. i.4)

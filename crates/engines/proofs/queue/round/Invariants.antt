@@ -10,7 +10,8 @@ use Rattle.engines.proofs.queue.round.Given as goal
 
 abbrev pub invariant-loop-q : goal.invariant-loop-q
 invariant-loop-q l =
-    (l.q ≤ l.n) × ((touched : ℕ) × Waiting (problem_in l.net l.forward l.turned l.triples) l.order l.net.hood l.selected l.initial.m l.waiting l.q l.queue touched l.m)
+    (l.q ≤ l.n) × ((touched : ℕ)
+    × Waiting (problem_in l.net l.forward l.turned l.triples) l.order l.net.hood l.selected l.initial.m l.waiting l.q l.queue touched l.m)
     × Store (problem_in l.net l.forward l.turned l.triples) l.net.hood l.m l.known l.memory × (length l.memory ≡ length l.initial.memory)
     × Counted (problem_in l.net l.forward l.turned l.triples) l.support l.counter l.copy l.list l.m
 

@@ -5,14 +5,14 @@ use Rattle.engines.proofs.run.run.Goals as goal
 pub sac-requires : goal.sac-requires
 sac-requires c =
     let p = c.requires in
-    (p.0, (p.1, blank-zeros))
+    record { run_asks = p.run_asks; memory_words_in_bounds = p.memory_words_in_bounds; blank = blank-zeros }
 
 pub queued-requires : goal.queued-requires
 queued-requires c =
     let p = c.requires in
-    (p.0, (p.1, blank-zeros))
+    record { run_asks = p.run_asks; memory_words_in_bounds = p.memory_words_in_bounds; blank = blank-zeros }
 
 pub sac-requires-in_default : goal.sac-requires-in_default
 sac-requires-in_default c =
     let p = c.requires in
-    (p.0, (p.1, blank-zeros))
+    record { run_asks = p.run_asks; memory_words_in_bounds = p.memory_words_in_bounds; blank = blank-zeros }

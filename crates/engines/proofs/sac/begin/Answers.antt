@@ -13,10 +13,10 @@ returns-then-some_empty c = (begun-empty _ _ (sym c.some_empty.ensures ∙ c.if-
 pub close-r-requires : goal.close-r-requires
 close-r-requires c =
     let p = c.requires in
-    start-asks _ _ _ _ _ _ _ _ _ _ p.0 p.1 (sym c.some_empty.ensures ∙ c.if-some_empty.false)
+    start-asks _ _ _ _ _ _ _ _ _ _ p.start_asks p.blank (sym c.some_empty.ensures ∙ c.if-some_empty.false)
 
 pub returns : goal.returns
 returns c =
     let p = c.requires in
     let r = c.close-r.ensures in
-    (begun_closed _ _ p.0.on _ _ _ r.0, r.1)
+    (begun_closed _ _ p.start_asks.on _ _ _ r.0, r.1)

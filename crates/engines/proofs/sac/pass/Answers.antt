@@ -9,26 +9,25 @@ use Rattle.engines.proofs.sac.pass.Goals as goal
 pub loop-q-init : goal.loop-q-init
 loop-q-init c =
     let p = c.requires in
-    (search rules, passing-start _ _ _ _ _ p.0.0.live, p.0.1, refl, p.1.1)
+    (search rules, passing-start _ _ _ _ _ p.live_asks.0.live, p.live_asks.1, refl, p.counted)
 
 pub field_at-f-requires : goal.field_at-f-requires
 field_at-f-requires c =
     let p = c.requires in
-    order-low _ _ _ _ _ _ _ _ p.1.0 p.0.0.wired.few _ c.loop-q-test.true
+    order-low _ _ _ _ _ _ _ _ p.lent p.live_asks.0.wired.few _ c.loop-q-test.true
 
 pub visit-r-requires : goal.visit-r-requires
 visit-r-requires c =
-    let p = c.requires in (
-      (kept-asks _ _ _ _ _ p.0.0 c.loop-q.invariant.1.kept, c.loop-q.invariant.2),
-      (
-        rw c.field_at-f.ensures.0 (visit-asks _ _ _ _ _ _ _ _ p.1.0 p.0.0.wired.few _ c.loop-q-test.true),
-        c.loop-q.invariant.4,
-      ),
-    )
+    let p = c.requires in record {
+      live_asks = (kept-asks _ _ _ _ _ p.live_asks.0 c.loop-q.invariant.1.kept, c.loop-q.invariant.2);
+      f_lt_fields = rw c.field_at-f.ensures.0
+          (visit-asks _ _ _ _ _ _ _ _ p.lent p.live_asks.0.wired.few _ c.loop-q-test.true);
+      counted = c.loop-q.invariant.4;
+    }
 
 pub shape_of-memory-then-r : goal.shape_of-memory-then-r
 shape_of-memory-then-r c =
-    c.visit-r.auto.1.1.0 ∙ c.loop-q.invariant.3
+    c.visit-r.auto.memory ∙ c.loop-q.invariant.3
 
 pub returns-then-r : goal.returns-then-r
 unfolding problem_of
@@ -36,7 +35,7 @@ returns-then-r c =
     let p = c.requires in
     let e = c.field_at-f.ensures.0 in
     let on = rw e at (sym c.has_bit.ensures ∙ c.if-has_bit.true) in
-    let in-mask = visit-selected _ _ _ _ _ _ _ _ p.1.0 p.0.0.wired.few _ c.loop-q-test.true on in
+    let in-mask = visit-selected _ _ _ _ _ _ _ _ p.lent p.live_asks.0.wired.few _ c.loop-q-test.true on in
     let visited = rw e at c.visit-r.ensures.0 in
     let none = passing-none _ _ _ _ _ _ _ _ c.loop-q.invariant.1 in-mask _ _ _ visited c.if-r.true _ in
     (none, (λ z. absurd (true≢false z)), λ z. absurd (true≢false z))
@@ -47,12 +46,12 @@ loop-q-preserved-then-has_bit c =
     let p = c.requires in
     let e = c.field_at-f.ensures.0 in
     let on = rw e at (sym c.has_bit.ensures ∙ c.if-has_bit.true) in
-    let in-mask = visit-selected _ _ _ _ _ _ _ _ p.1.0 p.0.0.wired.few _ c.loop-q-test.true on in
+    let in-mask = visit-selected _ _ _ _ _ _ _ _ p.lent p.live_asks.0.wired.few _ c.loop-q-test.true on in
     let visited = rw e at c.visit-r.ensures.0 in (
       search rules,
       passing-turn _ _ _ _ _ _ _ _ c.loop-q.invariant.1 in-mask _ _ _ visited c.if-r.false,
       c.visit-r.ensures.1 c.if-r.false,
-      c.visit-r.auto.1.1.0 ∙ c.loop-q.invariant.3,
+      c.visit-r.auto.memory ∙ c.loop-q.invariant.3,
       c.visit-r.ensures.2 c.if-r.false,
     )
 
@@ -70,4 +69,4 @@ unfolding problem_of
 returns c =
     let p = c.requires in
     let i = c.loop-q.invariant in
-    (passing_end _ _ _ _ _ _ _ _ p.1.0.visits c.loop-q-test.false i.1, (λ _. i.2), λ _. i.4)
+    (passing_end _ _ _ _ _ _ _ _ p.lent.visits c.loop-q-test.false i.1, (λ _. i.2), λ _. i.4)

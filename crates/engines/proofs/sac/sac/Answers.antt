@@ -6,28 +6,30 @@ use Rattle.engines.specs.EngineAsks.{begun-asks, kept-asks}
 use Rattle.engines.proofs.sac.sac.Goals as goal
 
 pub begin-requires : goal.begin-requires
-begin-requires c = let p = c.requires in (p.0.0, p.1.1)
+begin-requires c = record { start_asks = c.requires.run_asks.0; blank = c.requires.blank }
 
 pub returns-then-begin : goal.returns-then-begin
 returns-then-begin c = begun-engine _ _ _ _ _ (rw c.if-begin.true at c.begin.ensures.0)
 
 pub loop-net-init : goal.loop-net-init
 loop-net-init c =
-    let p = c.requires in
     let e = c.begin.ensures in
     let left = c.if-begin.false in
-    ((0, kept-start _ _ _ _ (e.0.live left)), store-start _ _ _ _ p.1.0, refl, e.1 left)
+    ((0, kept-start _ _ _ _ (e.0.live left)), store-start _ _ _ _ c.requires.memory_words_in_bounds, refl, e.1 left)
 
 pub pass-r-requires : goal.pass-r-requires
 pass-r-requires c =
     let i = c.loop-net.invariant in
-    let p = c.requires in
-    let live = begun-asks _ _ _ _ _ _ _ p.0.0 (rw c.if-begin.false at c.begin.ensures.0) in
-    ((kept-asks _ _ _ _ _ live i.0.1, i.1), (p.0.1, i.3))
+    let p = c.requires.run_asks in
+    let live = begun-asks _ _ _ _ _ _ _ p.0 (rw c.if-begin.false at c.begin.ensures.0) in record {
+      live_asks = (kept-asks _ _ _ _ _ live i.0.1, i.1);
+      lent = p.1;
+      counted = i.3;
+    }
 
 pub shape_of-memory-then-r : goal.shape_of-memory-then-r
 shape_of-memory-then-r c =
-    c.pass-r.auto.1.1.0 ∙ c.loop-net.invariant.2
+    c.pass-r.auto.memory ∙ c.loop-net.invariant.2
 
 pub returns-then-r : goal.returns-then-r
 returns-then-r c =
@@ -36,7 +38,7 @@ returns-then-r c =
 
 pub shape_of-memory-then-r-eq0 : goal.shape_of-memory-then-r-eq0
 shape_of-memory-then-r-eq0 c =
-    c.pass-r.auto.1.1.0 ∙ c.loop-net.invariant.2
+    c.pass-r.auto.memory ∙ c.loop-net.invariant.2
 
 pub returns-then-r-eq0 : goal.returns-then-r-eq0
 returns-then-r-eq0 c =
@@ -55,6 +57,6 @@ loop-net-preserved c =
     let i = c.loop-net.invariant in (
       (_, kept_then _ _ _ i.0.1 (c.pass-r.ensures.0.kept c.if-r.false)),
       c.pass-r.ensures.1 c.if-r.false,
-      c.pass-r.auto.1.1.0 ∙ i.2,
+      c.pass-r.auto.memory ∙ i.2,
       c.pass-r.ensures.2 c.if-r.false,
     )

@@ -1,5 +1,4 @@
 use mathlib.Core.Path.{◌∙◌}
-use Prim.Native.Nat.{◌<◌}
 use native.Mathlib.Omega.{arith}
 use Rattle.limits.specs.Limits.{most_settings}
 use Rattle.masks.specs.Bits.{bit_bound}
@@ -15,10 +14,16 @@ pub overflow_mul-j : goal.overflow_mul-j
 overflow_mul-j c = let j = c.requires.0 in omega arith
 
 pub overflow_add-j : goal.overflow_add-j
-overflow_add-j c = let b = (let low' : c.lowest_bit-b.result < most_settings = bit_bound most_settings _ _ c.requires.1 (c.loop-left.invariant.1.lefts _ c.lowest_bit-b.ensures.0.set) in low') in let j = c.requires.0 in omega arith
+overflow_add-j c =
+    let b = bit_bound most_settings _ _ c.requires.1 (c.loop-left.invariant.1.lefts _ c.lowest_bit-b.ensures.0.set) in
+    let j = c.requires.0 in
+    omega arith
 
 pub support_set-s-requires : goal.support_set-s-requires
-support_set-s-requires c = let b = (let low' : c.lowest_bit-b.result < most_settings = bit_bound most_settings _ _ c.requires.1 (c.loop-left.invariant.1.lefts _ c.lowest_bit-b.ensures.0.set) in low') in let j = c.requires.0 in omega arith
+support_set-s-requires c =
+    let b = bit_bound most_settings _ _ c.requires.1 (c.loop-left.invariant.1.lefts _ c.lowest_bit-b.ensures.0.set) in
+    let j = c.requires.0 in
+    omega arith
 
 pub raise-requires : goal.raise-requires
 raise-requires c =
@@ -33,9 +38,11 @@ pub loop-left-preserved : goal.loop-left-preserved
 loop-left-preserved c =
     let i = c.loop-left.invariant in
     let r = c.raise.ensures in
+    let e = c.lowest_bit-b.ensures.0.set in
     let w = c.requires.2 in (
       r.sized ∙ i.0,
-      rw c.clear_bit-left.ensures (made-turn _ _ _ _ _ _ _ _ i.1 c.lowest_bit-b.ensures.0.set ((let low' : c.lowest_bit-b.result < most_settings = bit_bound most_settings _ _ c.requires.1 (c.loop-left.invariant.1.lefts _ c.lowest_bit-b.ensures.0.set) in low')) _
+      rw c.clear_bit-left.ensures
+          (made-turn _ _ _ _ _ _ _ _ i.1 e (bit_bound most_settings _ _ c.requires.1 (i.1.lefts _ e)) _
           (λ i a l. set-has _ _ _ _ c.support_set-s.ensures i a (omega arith)) _ r),
     )
 

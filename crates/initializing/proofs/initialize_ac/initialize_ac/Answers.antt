@@ -1,8 +1,6 @@
 use mathlib.Core.Path.{◌≡◌, ◌∙◌}
-use Prim.Native.Nat.{◌<◌}
 use native.Mathlib.Omega.{arith}
 use borrow.Author.Rules.{rules}
-use Rattle.limits.specs.Limits.{most_fields}
 use Rattle.initializing.specs.InitializeTurn.{initialize_start, initialize_end, record-asks, count-asks}
 use Rattle.initializing.specs.InitializeTurn.{initialize_drop-asks, initialized_none, initialized_next}
 use Rattle.initializing.proofs.initialize_ac.initialize_ac.Goals as goal
@@ -11,7 +9,9 @@ pub loop-j-init : goal.loop-j-init
 loop-j-init c = let p = c.requires in (search rules, initialize_start _ _ _ _ p.0 _ _ _ _ p.1)
 
 pub bounds-joined-j : goal.bounds-joined-j
-bounds-joined-j c = (let low' : c.loop-j.j < most_fields = let p = c.requires in (record-asks _ _ _ _ p.0 _ _ _ _ p.1 _ _ _ _ _ _ _ c.loop-j.invariant.1 c.loop-j-test.true).0 in low')
+bounds-joined-j c =
+    let p = c.requires in
+    (record-asks _ _ _ _ p.0 _ _ _ _ p.1 _ _ _ _ _ _ _ c.loop-j.invariant.1 c.loop-j-test.true).0
 
 pub record-requires : goal.record-requires
 record-requires c =
@@ -19,7 +19,9 @@ record-requires c =
     record-asks _ _ _ _ p.0 _ _ _ _ p.1 _ _ _ _ _ _ _ c.loop-j.invariant.1 c.loop-j-test.true
 
 pub bounds-d-j : goal.bounds-d-j
-bounds-d-j c = (let low' : c.loop-j.j < most_fields = let p = c.requires in (record-asks _ _ _ _ p.0 _ _ _ _ p.1 _ _ _ _ _ _ _ c.loop-j.invariant.1 c.loop-j-test.true).0 in low')
+bounds-d-j c =
+    let p = c.requires in
+    (record-asks _ _ _ _ p.0 _ _ _ _ p.1 _ _ _ _ _ _ _ c.loop-j.invariant.1 c.loop-j-test.true).0
 
 pub count_towards-requires : goal.count_towards-requires
 count_towards-requires c =
@@ -46,7 +48,9 @@ returns-then-r c =
 
 pub overflow_add-j : goal.overflow_add-j
 overflow_add-j c =
-    omega (arith, (let low' : c.loop-j.j < most_fields = let p = c.requires in (record-asks _ _ _ _ p.0 _ _ _ _ p.1 _ _ _ _ _ _ _ c.loop-j.invariant.1 c.loop-j-test.true).0 in low'))
+    let p = c.requires in
+    let a = record-asks _ _ _ _ p.0 _ _ _ _ p.1 _ _ _ _ _ _ _ c.loop-j.invariant.1 c.loop-j-test.true in
+    omega (arith, a.0)
 
 pub loop-j-preserved : goal.loop-j-preserved
 loop-j-preserved c =

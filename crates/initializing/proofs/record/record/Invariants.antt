@@ -8,7 +8,8 @@ use Rattle.initializing.proofs.record.record.Given as goal
 
 abbrev pub invariant-loop-left : goal.invariant-loop-left
 invariant-loop-left l =
-    (length l.support ≡ support_words) × RecordedArcs (λ i. rows_of l.forward l.turned l.j i) l.j l.near l.d l.initial.support l.left l.support
+    (length l.support ≡ support_words)
+    × RecordedArcs (λ i. rows_of l.forward l.turned l.j i) l.j l.near l.d l.initial.support l.left l.support
 
 abbrev pub decreases-loop-left : goal.decreases-loop-left
 decreases-loop-left l = l.left

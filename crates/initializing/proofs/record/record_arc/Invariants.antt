@@ -9,7 +9,8 @@ use Rattle.initializing.proofs.record.record_arc.Given as goal
 
 abbrev pub invariant-loop-b : goal.invariant-loop-b
 invariant-loop-b l =
-    (l.b ≤ most_settings) × (length l.support ≡ support_words) × RecordedArc (rows_of l.forward l.turned l.j l.i) l.j l.i l.masks l.di l.initial.support l.b l.support
+    (l.b ≤ most_settings) × (length l.support ≡ support_words)
+    × RecordedArc (rows_of l.forward l.turned l.j l.i) l.j l.i l.masks l.di l.initial.support l.b l.support
 
 abbrev pub decreases-loop-b : goal.decreases-loop-b
 decreases-loop-b l = most_settings - l.b

@@ -1,5 +1,4 @@
 use mathlib.Core.Path.{refl}
-use Prim.Native.Nat.{◌<◌}
 use Rattle.limits.specs.Limits.{most_fields}
 use Rattle.masks.specs.Bits.{bit_bound}
 use Rattle.masks.specs.Words.{clear-lt}
@@ -10,10 +9,12 @@ pub loop-left-init : goal.loop-left-init
 loop-left-init c = dropping_start _ _ _ _ _
 
 pub bounds-d-i : goal.bounds-d-i
-bounds-d-i c = (let low' : c.lowest_bit-i.result < most_fields = bit_bound most_fields _ _ c.requires.2 (c.loop-left.invariant.lefts _ c.lowest_bit-i.ensures.0.set) in low')
+bounds-d-i c =
+    bit_bound most_fields _ _ c.requires.2 (c.loop-left.invariant.lefts _ c.lowest_bit-i.ensures.0.set)
 
 pub bounds-none-i : goal.bounds-none-i
-bounds-none-i c = (let low' : c.lowest_bit-i.result < most_fields = bit_bound most_fields _ _ c.requires.2 (c.loop-left.invariant.lefts _ c.lowest_bit-i.ensures.0.set) in low')
+bounds-none-i c =
+    bit_bound most_fields _ _ c.requires.2 (c.loop-left.invariant.lefts _ c.lowest_bit-i.ensures.0.set)
 
 pub move_out-t-requires : goal.move_out-t-requires
 move_out-t-requires c =
@@ -21,7 +22,8 @@ move_out-t-requires c =
     move_asks _ _ _ _ _ _ _ _ _ _ _ _ c.loop-left.invariant c.lowest_bit-i.ensures.0.set refl p.0 p.1 p.2 p.3 p.4
 
 pub bounds-d-i-then-gone-ne0 : goal.bounds-d-i-then-gone-ne0
-bounds-d-i-then-gone-ne0 c = (let low' : c.lowest_bit-i.result < most_fields = bit_bound most_fields _ _ c.requires.2 (c.loop-left.invariant.lefts _ c.lowest_bit-i.ensures.0.set) in low')
+bounds-d-i-then-gone-ne0 c =
+    bit_bound most_fields _ _ c.requires.2 (c.loop-left.invariant.lefts _ c.lowest_bit-i.ensures.0.set)
 
 pub returns-then-d-i-eq0 : goal.returns-then-d-i-eq0
 returns-then-d-i-eq0 c =

@@ -1,8 +1,5 @@
 use mathlib.Core.Path.{◌≡◌}
-use Prim.Native.Nat.{◌/◌, ◌<◌}
 use native.Mathlib.Omega.{arith}
-use lib.ListN.{get_or}
-use Rattle.limits.specs.Limits.{most_fields, most_settings, list_places}
 use Rattle.pruning.specs.Prune.{pruning_start, pruning_end}
 use Rattle.pruning.specs.PruneTurn.{head_asks, drop-asks, pruned_none, pruned_next, pruned_same}
 use Rattle.pruning.proofs.prune_ac.prune_ac.Goals as goal
@@ -11,29 +8,52 @@ pub loop-head-init : goal.loop-head-init
 loop-head-init c = pruning_start _ _ _ _ _ _ _ _ c.requires.1
 
 pub offset_bounds-list-head : goal.offset_bounds-list-head
-offset_bounds-list-head c = omega (arith, ((let asks' : (let l = c.loop-head in (l.head < list_places) × (get_or l.list l.head 0 < list_places) × (get_or l.list l.head 0 / most_settings < most_fields)) = let p = c.requires in head_asks _ _ _ _ p.0 _ _ _ _ _ _ _ p.1 _ _ _ _ _ _ _ c.loop-head.invariant c.loop-head-test.true in asks')).0)
+offset_bounds-list-head c =
+    let p = c.requires in
+    let asks = head_asks _ _ _ _ p.0 _ _ _ _ _ _ _ p.1 _ _ _ _ _ _ _ c.loop-head.invariant c.loop-head-test.true in
+    omega (arith, asks.0)
 
 pub bounds-list-head : goal.bounds-list-head
-bounds-list-head c = omega (arith, ((let asks' : (let l = c.loop-head in (l.head < list_places) × (get_or l.list l.head 0 < list_places) × (get_or l.list l.head 0 / most_settings < most_fields)) = let p = c.requires in head_asks _ _ _ _ p.0 _ _ _ _ _ _ _ p.1 _ _ _ _ _ _ _ c.loop-head.invariant c.loop-head-test.true in asks')).0)
+bounds-list-head c =
+    let p = c.requires in
+    let asks = head_asks _ _ _ _ p.0 _ _ _ _ _ _ _ p.1 _ _ _ _ _ _ _ c.loop-head.invariant c.loop-head-test.true in
+    omega (arith, asks.0)
 
 pub overflow_cast-x : goal.overflow_cast-x
-overflow_cast-x c = omega (arith, ((let asks' : (let l = c.loop-head in (l.head < list_places) × (get_or l.list l.head 0 < list_places) × (get_or l.list l.head 0 / most_settings < most_fields)) = let p = c.requires in head_asks _ _ _ _ p.0 _ _ _ _ _ _ _ p.1 _ _ _ _ _ _ _ c.loop-head.invariant c.loop-head-test.true in asks')).1)
+overflow_cast-x c =
+    let p = c.requires in
+    let asks = head_asks _ _ _ _ p.0 _ _ _ _ _ _ _ p.1 _ _ _ _ _ _ _ c.loop-head.invariant c.loop-head-test.true in
+    omega (arith, asks.1)
 
 pub overflow_add-head : goal.overflow_add-head
-overflow_add-head c = omega (arith, ((let asks' : (let l = c.loop-head in (l.head < list_places) × (get_or l.list l.head 0 < list_places) × (get_or l.list l.head 0 / most_settings < most_fields)) = let p = c.requires in head_asks _ _ _ _ p.0 _ _ _ _ _ _ _ p.1 _ _ _ _ _ _ _ c.loop-head.invariant c.loop-head-test.true in asks')).0)
+overflow_add-head c =
+    let p = c.requires in
+    let asks = head_asks _ _ _ _ p.0 _ _ _ _ _ _ _ p.1 _ _ _ _ _ _ _ c.loop-head.invariant c.loop-head-test.true in
+    omega (arith, asks.0)
 
 pub one_bit-spent-requires : goal.one_bit-spent-requires
-one_bit-spent-requires c = omega (arith, ((let asks' : (let l = c.loop-head in (l.head < list_places) × (get_or l.list l.head 0 < list_places) × (get_or l.list l.head 0 / most_settings < most_fields)) = let p = c.requires in head_asks _ _ _ _ p.0 _ _ _ _ _ _ _ p.1 _ _ _ _ _ _ _ c.loop-head.invariant c.loop-head-test.true in asks')).2)
+one_bit-spent-requires c =
+    let p = c.requires in
+    let asks = head_asks _ _ _ _ p.0 _ _ _ _ _ _ _ p.1 _ _ _ _ _ _ _ c.loop-head.invariant c.loop-head-test.true in
+    omega (arith, asks.2)
 
 pub lower_fields-requires : goal.lower_fields-requires
 lower_fields-requires c =
-    (((let asks' : (let l = c.loop-head in (l.head < list_places) × (get_or l.list l.head 0 < list_places) × (get_or l.list l.head 0 / most_settings < most_fields)) = let p = c.requires in head_asks _ _ _ _ p.0 _ _ _ _ _ _ _ p.1 _ _ _ _ _ _ _ c.loop-head.invariant c.loop-head-test.true in asks')).1, ((let asks' : (let l = c.loop-head in (l.head < list_places) × (get_or l.list l.head 0 < list_places) × (get_or l.list l.head 0 / most_settings < most_fields)) = let p = c.requires in head_asks _ _ _ _ p.0 _ _ _ _ _ _ _ p.1 _ _ _ _ _ _ _ c.loop-head.invariant c.loop-head-test.true in asks')).2, c.requires.0.few, c.loop-head.invariant.counts.sized)
+    let p = c.requires in
+    let asks = head_asks _ _ _ _ p.0 _ _ _ _ _ _ _ p.1 _ _ _ _ _ _ _ c.loop-head.invariant c.loop-head-test.true in
+    (asks.1, asks.2, p.0.few, c.loop-head.invariant.counts.sized)
 
 pub offset_bounds-joined-j : goal.offset_bounds-joined-j
-offset_bounds-joined-j c = omega (arith, ((let asks' : (let l = c.loop-head in (l.head < list_places) × (get_or l.list l.head 0 < list_places) × (get_or l.list l.head 0 / most_settings < most_fields)) = let p = c.requires in head_asks _ _ _ _ p.0 _ _ _ _ _ _ _ p.1 _ _ _ _ _ _ _ c.loop-head.invariant c.loop-head-test.true in asks')).2)
+offset_bounds-joined-j c =
+    let p = c.requires in
+    let asks = head_asks _ _ _ _ p.0 _ _ _ _ _ _ _ p.1 _ _ _ _ _ _ _ c.loop-head.invariant c.loop-head-test.true in
+    omega (arith, asks.2)
 
 pub bounds-joined-j : goal.bounds-joined-j
-bounds-joined-j c = omega (arith, ((let asks' : (let l = c.loop-head in (l.head < list_places) × (get_or l.list l.head 0 < list_places) × (get_or l.list l.head 0 / most_settings < most_fields)) = let p = c.requires in head_asks _ _ _ _ p.0 _ _ _ _ _ _ _ p.1 _ _ _ _ _ _ _ c.loop-head.invariant c.loop-head-test.true in asks')).2)
+bounds-joined-j c =
+    let p = c.requires in
+    let asks = head_asks _ _ _ _ p.0 _ _ _ _ _ _ _ p.1 _ _ _ _ _ _ _ c.loop-head.invariant c.loop-head-test.true in
+    omega (arith, asks.2)
 
 pub drop-r-requires : goal.drop-r-requires
 drop-r-requires c =
@@ -49,8 +69,9 @@ returns-then-r c =
 
 pub loop-head-smaller-then-lower_fields : goal.loop-head-smaller-then-lower_fields
 loop-head-smaller-then-lower_fields c =
-    let l = ((let asks' : (let l = c.loop-head in (l.head < list_places) × (get_or l.list l.head 0 < list_places) × (get_or l.list l.head 0 / most_settings < most_fields)) = let p = c.requires in head_asks _ _ _ _ p.0 _ _ _ _ _ _ _ p.1 _ _ _ _ _ _ _ c.loop-head.invariant c.loop-head-test.true in asks')).0 in
-    omega arith
+    let p = c.requires in
+    let asks = head_asks _ _ _ _ p.0 _ _ _ _ _ _ _ p.1 _ _ _ _ _ _ _ c.loop-head.invariant c.loop-head-test.true in
+    omega (arith, asks.0)
 
 pub loop-head-preserved-then-lower_fields : goal.loop-head-preserved-then-lower_fields
 loop-head-preserved-then-lower_fields c =
@@ -60,7 +81,10 @@ loop-head-preserved-then-lower_fields c =
     _ _ _ c.lower_fields.ensures _ _ _ _ (rw c.if-r.false at c.drop-r.ensures))
 
 pub loop-head-smaller : goal.loop-head-smaller
-loop-head-smaller c = let l = ((let asks' : (let l = c.loop-head in (l.head < list_places) × (get_or l.list l.head 0 < list_places) × (get_or l.list l.head 0 / most_settings < most_fields)) = let p = c.requires in head_asks _ _ _ _ p.0 _ _ _ _ _ _ _ p.1 _ _ _ _ _ _ _ c.loop-head.invariant c.loop-head-test.true in asks')).0 in omega arith
+loop-head-smaller c =
+    let p = c.requires in
+    let asks = head_asks _ _ _ _ p.0 _ _ _ _ _ _ _ p.1 _ _ _ _ _ _ _ c.loop-head.invariant c.loop-head-test.true in
+    omega (arith, asks.0)
 
 pub loop-head-preserved : goal.loop-head-preserved
 loop-head-preserved c =

@@ -8,8 +8,8 @@ use Rattle.revising.proofs.narrow.revise_all.Given as goal
 
 abbrev pub invariant-loop-waits : goal.invariant-loop-waits
 invariant-loop-waits l =
-    Narrowing (problem_of l.n l.joined l.forward l.turned l.triples) l.within l.support l.initial.d l.initial.list l.tail l.initial.counter l.waits l.changed l.spent l.d l.list l.end l.counter
+    Narrowing (problem_of l.n l.joined l.forward l.turned l.triples) l.within l.support
+    l.initial.d l.initial.list l.tail l.initial.counter l.waits l.changed l.spent l.d l.list l.end l.counter
 
 abbrev pub decreases-loop-waits : goal.decreases-loop-waits
-decreases-loop-waits l =
-    count l.d * 2 ^ most_triples + l.waits
+decreases-loop-waits l = count l.d * 2 ^ most_triples + l.waits

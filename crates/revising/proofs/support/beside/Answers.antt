@@ -1,5 +1,4 @@
 use mathlib.Core.Path.{refl}
-use Prim.Native.Nat.{◌<◌}
 use borrow.Author.Rules.{rules}
 use Rattle.limits.specs.Limits.{most_settings}
 use Rattle.masks.specs.Bits.{bit_bound}
@@ -11,13 +10,19 @@ pub loop-left-init : goal.loop-left-init
 loop-left-init c = (λ v e. e, beside-start _ _ _ _)
 
 pub overflow_add-both : goal.overflow_add-both
-overflow_add-both c = let l = (let low' : c.lowest_bit-q.result < most_settings = bit_bound most_settings _ _ c.requires.0 (c.loop-left.invariant.0 _ c.lowest_bit-q.ensures.0.set) in low') in search rules
+overflow_add-both c =
+    let l = bit_bound most_settings _ _ c.requires.0 (c.loop-left.invariant.0 _ c.lowest_bit-q.ensures.0.set) in
+    search rules
 
 pub offset_bounds-triples-row : goal.offset_bounds-triples-row
-offset_bounds-triples-row c = let l = (let low' : c.lowest_bit-q.result < most_settings = bit_bound most_settings _ _ c.requires.0 (c.loop-left.invariant.0 _ c.lowest_bit-q.ensures.0.set) in low') in search rules
+offset_bounds-triples-row c =
+    let l = bit_bound most_settings _ _ c.requires.0 (c.loop-left.invariant.0 _ c.lowest_bit-q.ensures.0.set) in
+    search rules
 
 pub bounds-triples-row : goal.bounds-triples-row
-bounds-triples-row c = let l = (let low' : c.lowest_bit-q.result < most_settings = bit_bound most_settings _ _ c.requires.0 (c.loop-left.invariant.0 _ c.lowest_bit-q.ensures.0.set) in low') in search rules
+bounds-triples-row c =
+    let l = bit_bound most_settings _ _ c.requires.0 (c.loop-left.invariant.0 _ c.lowest_bit-q.ensures.0.set) in
+    search rules
 
 pub loop-left-smaller-then-both-ne0 : goal.loop-left-smaller-then-both-ne0
 loop-left-smaller-then-both-ne0 c =

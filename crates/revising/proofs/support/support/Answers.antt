@@ -1,4 +1,3 @@
-use Prim.Native.Nat.{◌<◌}
 use native.Mathlib.Omega.{arith}
 use borrow.Author.Rules.{rules}
 use Rattle.limits.specs.Limits.{most_settings}
@@ -11,14 +10,18 @@ pub loop-left-init : goal.loop-left-init
 loop-left-init c = (λ v e. e, supported3_start _ _ _ _ _)
 
 pub overflow_mul-p : goal.overflow_mul-p
-overflow_mul-p c = let l = (let low' : c.lowest_bit-p.result < most_settings = bit_bound most_settings _ _ c.requires.0 (c.loop-left.invariant.0 _ c.lowest_bit-p.ensures.0.set) in low') in search rules
+overflow_mul-p c =
+    let l = bit_bound most_settings _ _ c.requires.0 (c.loop-left.invariant.0 _ c.lowest_bit-p.ensures.0.set) in
+    search rules
 
 pub overflow_add-rows : goal.overflow_add-rows
-overflow_add-rows c = let l = (let low' : c.lowest_bit-p.result < most_settings = bit_bound most_settings _ _ c.requires.0 (c.loop-left.invariant.0 _ c.lowest_bit-p.ensures.0.set) in low') in search rules
+overflow_add-rows c =
+    let l = bit_bound most_settings _ _ c.requires.0 (c.loop-left.invariant.0 _ c.lowest_bit-p.ensures.0.set) in
+    search rules
 
 pub beside-two-requires : goal.beside-two-requires
 beside-two-requires c =
-    let l = (let low' : c.lowest_bit-p.result < most_settings = bit_bound most_settings _ _ c.requires.0 (c.loop-left.invariant.0 _ c.lowest_bit-p.ensures.0.set) in low') in
+    let l = bit_bound most_settings _ _ c.requires.0 (c.loop-left.invariant.0 _ c.lowest_bit-p.ensures.0.set) in
     let p = c.requires in
     let long = p.2 in
     (p.1, omega arith)

@@ -1,4 +1,3 @@
-use Prim.Native.Nat.{◌<◌}
 use native.Mathlib.Omega.{arith}
 use borrow.Author.Rules.{rules}
 use Rattle.masks.specs.Words.{clear-lt, clear_within}
@@ -16,7 +15,7 @@ loop-left-init c = (λ v e. e, touching_start _ _)
 
 pub bounds-triples-f : goal.bounds-triples-f
 bounds-triples-f c =
-    let l = (let low' : c.lowest_bit-f.result < c.args.n = c.requires.2 _ (c.loop-left.invariant.0 _ c.lowest_bit-f.ensures.0.set) in low') in
+    let l = c.requires.2 _ (c.loop-left.invariant.0 _ c.lowest_bit-f.ensures.0.set) in
     let p = c.requires in
     let m = p.0.long in
     let f = p.1 in
@@ -32,7 +31,7 @@ loop-left-preserved c =
     let set = c.lowest_bit-f.ensures.0.set in
     rw c.clear_bit-left.ensures (
       λ v e. i.0 v (clear_within _ _ v e),
-      touching_turn _ _ _ c.requires.0 _ _ _ i.1 (i.0 _ set) ((let low' : c.lowest_bit-f.result < c.args.n = c.requires.2 _ (c.loop-left.invariant.0 _ c.lowest_bit-f.ensures.0.set) in low')),
+      touching_turn _ _ _ c.requires.0 _ _ _ i.1 (i.0 _ set) (c.requires.2 _ (i.0 _ set)),
     )
 
 pub returns : goal.returns

@@ -1,10 +1,7 @@
 use mathlib.Core.Path.{◌≡◌, refl, sym, ap, ◌∙◌}
 use mathlib.Core.Bool.{true, true≢false}
-use mathlib.Core.List.{List, [], ◌∷◌}
-use Prim.Native.Nat.{ℕ, ◌<◌}
+use Prim.Native.Nat.{◌<◌}
 use native.Mathlib.Omega.{arith}
-use types.Run.{OneOf, miss}
-use denote.Enum.Declared.{tag_of}
 use lib.Bits.{and_le_l}
 use lib.ListN.{get_or}
 use Rattle.limits.specs.Limits.{most_fields}
@@ -14,53 +11,54 @@ use Rattle.visiting.specs.declared.store.CheckResult.{CheckResult}
 use Rattle.visiting.specs.declared.store.CheckResult.TheVariants.{Recalled, Passed, Failed}
 use Rattle.visiting.specs.Store.{passing, store-shrunk}
 use Rattle.visiting.specs.Visit.{visiting_start, visiting_has, visiting_pass, visiting_none, visiting_fail, visiting_end}
-use Rattle.visiting.specs.contracts.store.CheckResult.{the_type}
 use Rattle.visiting.proofs.visit.visit.Goals as goal
 
--- every variant but the failure, by its place among them
-abbrev others : List ℕ
-others = 0 ∷ 1 ∷ []
-
-other : (r : CheckResult) → OneOf others (tag_of the_type r) → passing r ≡ true
-other Recalled h = refl
-other Passed h = refl
-other Failed h = absurd (miss others 2 tt h)
+-- every variant but the failure passes
+other : (r : CheckResult) → (r ≡ Failed → ⊥) → passing r ≡ true
+other Recalled n = refl
+other Passed n = refl
+other Failed n = absurd (n refl)
 
 pub offset_bounds-m-f : goal.offset_bounds-m-f
-offset_bounds-m-f c = let l = (let low' : c.args.f < most_fields = let l = c.requires.1.0.0 in let k = c.requires.0.0.wired.few in omega arith in low') in omega arith
+offset_bounds-m-f c =
+    let l = c.requires.f_lt_fields.0 in
+    let k = c.requires.live_asks.0.wired.few in
+    omega arith
 
 pub bounds-m-f : goal.bounds-m-f
-bounds-m-f c = (let low' : c.args.f < most_fields = let l = c.requires.1.0.0 in let k = c.requires.0.0.wired.few in omega arith in low')
+bounds-m-f c =
+    let l = c.requires.f_lt_fields.0 in
+    let k = c.requires.live_asks.0.wired.few in
+    omega arith
 
 pub loop-left-init : goal.loop-left-init
 loop-left-init c =
-    let p = c.requires in (visiting_start _ _ _ _ p.0.0.live, p.0.1, refl, p.1.1)
+    let a = c.requires.live_asks in (visiting_start _ _ _ _ a.0.live, a.1, refl, c.requires.counted)
 
 pub check-found-requires : goal.check-found-requires
 check-found-requires c =
-    let i = c.loop-left.invariant in
-    let p = c.requires in (
-      (asks-shrunk _ _ _ _ _ _ p.0.0 i.0.shrunk i.0.live, i.1),
-      ((p.1.0.1, visiting_has _ _ _ _ _ _ _ _ i.0 c.lowest_bit-v.ensures.0.set), i.3),
-    )
+    let i = c.loop-left.invariant in record {
+      live_asks = (asks-shrunk _ _ _ _ _ _ c.requires.live_asks.0 i.0.shrunk i.0.live, i.1);
+      hood_asks = (c.requires.f_lt_fields.1, visiting_has _ _ _ _ _ _ _ _ i.0 c.lowest_bit-v.ensures.0.set);
+      counted = i.3;
+    }
 
 pub remove-r-requires : goal.remove-r-requires
 remove-r-requires c =
-    let i = c.loop-left.invariant.0 in (
-      (
-        asks-shrunk _ _ _ _ _ _ c.requires.0.0 i.shrunk i.live,
+    let i = c.loop-left.invariant.0 in record {
+      live_asks = (
+        asks-shrunk _ _ _ _ _ _ c.requires.live_asks.0 i.shrunk i.live,
         visiting_has _ _ _ _ _ _ _ _ i c.lowest_bit-v.ensures.0.set,
-      ),
-      c.check-found.ensures.1,
-    )
+      );
+      counted = c.check-found.ensures.1;
+    }
 
 pub shape_of-memory-then-r : goal.shape_of-memory-then-r
-shape_of-memory-then-r c =
-    c.check-found.auto.1.1.0 ∙ c.loop-left.invariant.2
+shape_of-memory-then-r c = c.check-found.auto.memory ∙ c.loop-left.invariant.2
 
 pub returns-then-r : goal.returns-then-r
 returns-then-r c =
-    let fails = sym c.check-found.ensures.0.passed ∙ ap passing c.enum_told-1.given.1 in (
+    let fails = sym c.check-found.ensures.0.passed ∙ ap passing c.in-Failed.is in (
       visiting_none _ _ _ _ _ _ _ _ c.loop-left.invariant.0 fails _ _ (rw c.if-r.true at c.remove-r.ensures.0) _,
       (λ e. absurd (true≢false e)),
       (λ e. absurd (true≢false e)),
@@ -68,41 +66,43 @@ returns-then-r c =
 
 pub offset_bounds-m-f-in-Failed : goal.offset_bounds-m-f-in-Failed
 offset_bounds-m-f-in-Failed c =
-    let l = (let low' : c.args.f < most_fields = let l = c.requires.1.0.0 in let k = c.requires.0.0.wired.few in omega arith in low') in
+    let l = c.requires.f_lt_fields.0 in
+    let k = c.requires.live_asks.0.wired.few in
     omega arith
 
 pub bounds-m-f-in-Failed : goal.bounds-m-f-in-Failed
 bounds-m-f-in-Failed c =
-    (let low' : c.args.f < most_fields = let l = c.requires.1.0.0 in let k = c.requires.0.0.wired.few in omega arith in low')
+    let l = c.requires.f_lt_fields.0 in
+    let k = c.requires.live_asks.0.wired.few in
+    omega arith
 
 pub loop-left-smaller-in-Failed : goal.loop-left-smaller-in-Failed
 loop-left-smaller-in-Failed c =
     let l = clear-lt _ _ c.lowest_bit-v.ensures.0.set in
     let e = c.clear_bit-left.ensures in
-    let k = and_le_l c.clear_bit-left.result (get_or c.remove-r.new.0 c.args.f 0) in
+    let k = and_le_l c.clear_bit-left.result (get_or c.remove-r.new.m c.args.f 0) in
     omega (arith, l, e, k)
 
 pub loop-left-preserved-in-Failed : goal.loop-left-preserved-in-Failed
 loop-left-preserved-in-Failed c =
-    let fails = sym c.check-found.ensures.0.passed ∙ ap passing c.enum_told-1.given.1 in
+    let fails = sym c.check-found.ensures.0.passed ∙ ap passing c.in-Failed.is in
     let gone = c.remove-r.ensures in
     let lost = rw c.if-r.false at gone.0 in (
       rw c.clear_bit-left.ensures (visiting_fail _ _ _ _ _ _ _ _ c.loop-left.invariant.0 fails _ _ lost),
       store-shrunk _ lost.sized (lost.shrunk refl).inside c.check-found.ensures.0.store,
-      c.check-found.auto.1.1.0 ∙ c.loop-left.invariant.2,
+      c.check-found.auto.memory ∙ c.loop-left.invariant.2,
       gone.1 c.if-r.false,
     )
 
 pub loop-left-smaller : goal.loop-left-smaller
-loop-left-smaller c =
-    rw c.clear_bit-left.ensures (clear-lt _ _ c.lowest_bit-v.ensures.0.set)
+loop-left-smaller c = rw c.clear_bit-left.ensures (clear-lt _ _ c.lowest_bit-v.ensures.0.set)
 
 pub loop-left-preserved : goal.loop-left-preserved
 loop-left-preserved c =
-    let passes = sym c.check-found.ensures.0.passed ∙ other c.check-found.result c.in_default.keys2 in (
+    let passes = sym c.check-found.ensures.0.passed ∙ other c.check-found.result c.in_default.not-Failed in (
       rw c.clear_bit-left.ensures (visiting_pass _ _ _ _ _ _ _ _ c.loop-left.invariant.0 passes),
       c.check-found.ensures.0.store,
-      c.check-found.auto.1.1.0 ∙ c.loop-left.invariant.2,
+      c.check-found.auto.memory ∙ c.loop-left.invariant.2,
       c.check-found.ensures.1,
     )
 
