@@ -1,14 +1,12 @@
 -- Closing a set over some of the fields: arc consistency. Assumes nothing.
-use Rattle.std.specs.Prelude.{◌≡◌, Bool, true, ◌&&◌, ◌↔◌, List, ℕ, ◌<◌, ltb, length, get_or}
-use Rattle.std.proofs.Common.{ltb-true, lt-ltb}
-use Rattle.masks.specs.Tests.{and_l, and_r, and-by, ◌⇒◌, ⇒_at, ⇒_by, all_below, all_below-at, all_below-by}
+use Rattle.std.specs.Prelude.{◌≡◌, Bool, true, ◌&&◌, List, ℕ, ◌<◌, ltb, length, get_or}
+use Rattle.masks.specs.Tests.{◌⇒◌, all_below}
 use Rattle.masks.specs.Bits.{bit, Within}
 use Rattle.masks.specs.Masks.{some_bit, some_bit-at, some_bit-by}
 use Rattle.masks.specs.Sets.{has, ◌⊆◌}
-use Rattle.consistency.specs.Largest.{IsLargest, IsLargest_mono, IsLargest_stricter, IsLargest_iff, IsLargest_unique}
-use Rattle.consistency.specs.Largest.{IsLargest-self, IsLargest_between, Test, Monotone, AllPass, largest, largest-is}
+use Rattle.consistency.specs.Largest.{Test, largest}
 use Rattle.consistency.specs.Problem.{has_field, Problem, triple_at, In}
-use Rattle.consistency.specs.Triples.{free_mono, free_wider, Together, together-free, together, together_at, together-by}
+use Rattle.consistency.specs.Triples.{free_mono, free_wider, Together, together-free, together}
 
 module _ (P : Problem) where
   -- ---- support: an allowed partner in field g, still in S, of position v of field f
@@ -54,30 +52,6 @@ module _ (P : Problem) where
       let both = all_below P.fields (supported_by W S f v) && under in
       ltb f P.fields && bit W f ⇒ both
 
-  pub supported-at : (W : ℕ) (S : List ℕ) (f v : ℕ) → supported W S f v ≡ true → In P W f → Supported W S f v
-  unfolding supported supported_by supported_by_triple
-  supported-at W S f v e i =
-      let both = ⇒_at (ltb f P.fields && bit W f) _ e (and-by _ _ (lt-ltb f P.fields i.0) i.1) in
-      record {
-        rules = λ g j k. partner-at S f v g
-            (⇒_at (bit W g && P.joined f g) _ (all_below-at P.fields (supported_by W S f v) (and_l _ _ both) g j.0)
-            (and-by _ _ j.1 k));
-        triples = λ t l k. together_at P W S (triple_at P t) f v
-            (⇒_at (has_field (triple_at P t) f) _ (all_below-at (length P.triples) (supported_by_triple W S f v)
-            (and_r (all_below P.fields (supported_by W S f v)) _ both) t l) k);
-      }
-
-  pub supported-by : (W : ℕ) (S : List ℕ) (f v : ℕ) → (In P W f → Supported W S f v) → supported W S f v ≡ true
-  unfolding supported supported_by supported_by_triple
-  supported-by W S f v s =
-      ⇒_by (ltb f P.fields && bit W f) _ (λ i.
-      let x = s (ltb-true f P.fields (and_l _ _ i), and_r (ltb f P.fields) _ i) in
-      and-by _ _
-      (all_below-by P.fields (supported_by W S f v) (λ g h. ⇒_by (bit W g && P.joined f g) _ (λ j.
-      partner-by S f v g (x.rules g (h, and_l _ _ j) (and_r (bit W g) _ j)))))
-      (all_below-by (length P.triples) (supported_by_triple W S f v) (λ t l. ⇒_by (has_field (triple_at P t) f) _ (λ j.
-      together-by P W S (triple_at P t) f v (x.triples t l j)))))
-
   -- what is supported in a set is supported in a larger one
   pub support_mono : (W : ℕ) (S R : List ℕ) → S ⊆ R → (f v : ℕ) → Supported W S f v → Supported W R f v
   support_mono W S R h f v s = record {
@@ -85,33 +59,10 @@ module _ (P : Problem) where
     triples = λ t l k. together-free P W W S R (triple_at P t) f v (λ g _ u. free_mono P W S R h g u) (s.triples t l k);
   }
 
-  pub supported_mono : (W : ℕ) → Monotone (supported W)
-  supported_mono W S R h f v e = supported-by W R f v (λ i. support_mono W S R h f v (supported-at W S f v e i))
-
-  pub all_supported : (W : ℕ) (S : List ℕ) → AllPass (supported W) S ↔ Closed W S
-  all_supported W S = (λ p f v e. supported-at W S f v (p f v e), λ c f v e. supported-by W S f v (c f v e))
-
   -- ---- closing (01): the largest closed part
 
   unfoldable pub closing : ℕ → List ℕ → List ℕ
   closing W S = largest (supported W) S
-
-  pub closing-is : (W : ℕ) (S : List ℕ) → IsLargest (Closed W) S (closing W S)
-  unfolding closing
-  closing-is W S = IsLargest_iff (AllPass (supported W)) (Closed W) (all_supported W) S _ (largest-is (supported W) (supported_mono W) S)
-
-  pub closing_unique : (W : ℕ) (S L : List ℕ) → IsLargest (Closed W) S L → closing W S ≡ L
-  closing_unique W S L l = IsLargest_unique (Closed W) S (closing W S) L (closing-is W S) l
-
-  pub closing-self : (W : ℕ) (S : List ℕ) → Closed W S → closing W S ≡ S
-  closing-self W S c = closing_unique W S S (IsLargest-self (Closed W) S c)
-
-  pub closing_mono : (W : ℕ) (S R : List ℕ) → S ⊆ R → closing W S ⊆ closing W R
-  closing_mono W S R h = IsLargest_mono (Closed W) S R (closing W S) (closing W R) h (closing-is W S) (closing-is W R)
-
-  -- what lies between a set and its closing has the same closing
-  pub closing_between : (W : ℕ) (S U : List ℕ) → length U ≡ length S → closing W S ⊆ U → U ⊆ S → closing W U ≡ closing W S
-  closing_between W S U e h k = closing_unique W U (closing W S) (IsLargest_between (Closed W) S U (closing W S) e h k (closing-is W S))
 
   -- over more fields it asks more
   pub closed_wider : (W Z : ℕ) → Within W Z → (S : List ℕ) → Closed Z S → Closed W S
@@ -121,7 +72,3 @@ module _ (P : Problem) where
         rules = λ g j. s.rules g (j.0, h g j.1);
         triples = λ t l k. together-free P Z W S S (triple_at P t) f v (λ g _ u. free_wider P W Z h S g u) (s.triples t l k);
       }
-
-  pub closing_wider : (W Z : ℕ) → Within W Z → (S : List ℕ) → closing Z S ⊆ closing W S
-  closing_wider W Z h S =
-      IsLargest_stricter (Closed Z) (Closed W) (closed_wider W Z h) S (closing Z S) (closing W S) (closing-is Z S) (closing-is W S)

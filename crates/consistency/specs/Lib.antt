@@ -9,7 +9,4 @@ pub mod Passing
 pub mod Left
 pub mod Offers
 pub mod AllSelected
-pub mod Order
-pub mod SetUps
 pub mod Revising
-pub mod Padding

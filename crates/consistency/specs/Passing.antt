@@ -1,16 +1,15 @@
 -- The test of a setting over a mask of fields: singleton arc consistency. Assumes nothing.
 use Rattle.std.specs.Prelude.{◌≡◌, Bool, true, false, List, ℕ}
-use Rattle.std.proofs.Common.{sym, ◌∙◌}
 use Rattle.std.proofs.Math.Path.{ap}
 use Rattle.std.proofs.Math.Bool.{not}
 use borrow.Author.Tests.{not-true}
 use Rattle.masks.specs.Tests.{never, not_so, ◌⇒◌, ⇒_at, ⇒_by, all_below, all_below-at, all_below-by}
-use Rattle.masks.specs.Bits.{bit, Within}
-use Rattle.masks.specs.Sets.{has, ◌⊆◌}
-use Rattle.masks.specs.Settings.{cut, cut_⊆, cut_at, cut_mono, empty, empty-at, empty-not}
-use Rattle.consistency.specs.Largest.{Test, Monotone}
+use Rattle.masks.specs.Bits.{bit}
+use Rattle.masks.specs.Sets.{◌⊆◌}
+use Rattle.masks.specs.Settings.{cut, empty, empty-at, empty-not}
+use Rattle.consistency.specs.Largest.{Test}
 use Rattle.consistency.specs.Problem.{Problem, In}
-use Rattle.consistency.specs.Closing.{Closed, closing, closing-is, closing_mono, closed_wider}
+use Rattle.consistency.specs.Closing.{Closed, closing}
 
 module _ (P : Problem) where
   -- ---- no field of a mask is empty
@@ -62,37 +61,3 @@ module _ (P : Problem) where
     pub inside : R ⊆ cut S f v
     pub shut : Closed P W R
     pub full : NoneEmpty W R
-
-  pub witness_at : (W : ℕ) (S : List ℕ) (f v : ℕ) → PassesOver W S f v → Witness W S f v (left W S f v)
-  witness_at W S f v p = let c = closing-is P W (cut S f v) in record { inside = c.inside; shut = c.good; full = p }
-
-  pub witness_by : (W : ℕ) (S : List ℕ) (f v : ℕ) (R : List ℕ) → Witness W S f v R → PassesOver W S f v
-  witness_by W S f v R w = none_empty_mono W R (left W S f v) ((closing-is P W (cut S f v)).most R w.inside w.shut) w.full
-
-  pub passes_over_mono : (W : ℕ) → Monotone (passes_over W)
-  passes_over_mono W S R h f v e =
-      passes_over-by W R f v
-      (none_empty_mono W (left W S f v) (left W R f v) (closing_mono P W (cut S f v) (cut R f v) (cut_mono S R f v h))
-      (passes_over-at W S f v e))
-
-  -- a setting that passes over a mask that has its field is itself left
-  pub passing-left : (W : ℕ) (S : List ℕ) (f v : ℕ) → In P W f → PassesOver W S f v → has (left W S f v) f v ≡ true
-  passing-left W S f v i p =
-      let w = witness_at W S f v p in
-      let s = empty-not (left W S f v) f (w.full f i) in
-      ap (has (left W S f v) f) (sym (cut_at S f v s.0 (w.inside f s.0 s.1))) ∙ s.1
-
-  -- a setting that passes over a mask leaves none of its fields empty
-  pub passing-full : (W : ℕ) (S : List ℕ) (f v : ℕ) → PassesOver W S f v → NoneEmpty W S
-  passing-full W S f v p =
-      none_empty_mono W (left W S f v) S (λ g u e. cut_⊆ S f v g u ((witness_at W S f v p).inside g u e)) p
-
-  -- over more fields it asks more
-  pub passing_wider : (W Z : ℕ) → Within W Z → (S : List ℕ) (f v : ℕ) → PassesOver Z S f v → PassesOver W S f v
-  passing_wider W Z n S f v p =
-      let w = witness_at Z S f v p in
-      witness_by W S f v (left Z S f v) (record {
-        inside = w.inside;
-        shut = closed_wider P W Z n (left Z S f v) w.shut;
-        full = λ g i. w.full g (i.0, n g i.1);
-      })

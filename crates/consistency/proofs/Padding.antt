@@ -6,8 +6,10 @@ use Rattle.std.specs.Prelude.{◌≡◌, List, ℕ, ◌+◌, length}
 use Rattle.std.proofs.Common.{sym, ap, ◌∙◌}
 use Rattle.masks.specs.Sets.{◌⊆◌, ⊆_trans, ⊆_antisymm, pad, length-pad, has-pad}
 use Rattle.consistency.specs.Problem.{Problem}
-use Rattle.consistency.specs.Closing.{closing, closing-is, closing_mono}
-use Rattle.consistency.specs.Offers.{offers, offers-is, offers_mono}
+use Rattle.consistency.specs.Closing.{closing}
+use Rattle.consistency.proofs.Closing.{closing-is, closing_mono}
+use Rattle.consistency.specs.Offers.{offers}
+use Rattle.consistency.proofs.Offers.{offers-is, offers_mono}
 
 pad_⊆ : (n : ℕ) (S : List ℕ) → pad n S ⊆ S
 pad_⊆ n S f v e = sym (has-pad n S f v) ∙ e

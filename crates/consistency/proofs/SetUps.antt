@@ -7,9 +7,12 @@ use Rattle.masks.specs.Sets.{has, ◌⊆◌, only, only_⊆, only_at, only-by}
 use Rattle.masks.specs.Settings.{cut_by, empty, empty-at}
 use Rattle.consistency.specs.Problem.{has_first, has-second, has-third, Problem, triple_at, TriplesIn, field_below, SetUp}
 use Rattle.consistency.specs.Triples.{Free, Together}
-use Rattle.consistency.specs.Closing.{Closed, closing, closing-is}
-use Rattle.consistency.specs.Passing.{PassesOver, witness_by}
-use Rattle.consistency.specs.Offers.{PartiallyConsistent, offers, offers-is, wiped_out, wiped_out-at}
+use Rattle.consistency.specs.Closing.{Closed, closing}
+use Rattle.consistency.proofs.Closing.{closing-is}
+use Rattle.consistency.specs.Passing.{PassesOver}
+use Rattle.consistency.proofs.Passing.{witness_by}
+use Rattle.consistency.specs.Offers.{PartiallyConsistent, offers, wiped_out}
+use Rattle.consistency.proofs.Offers.{offers-is, wiped_out-at}
 
 module _ (P : Problem) (drafts : TriplesIn P) (S : List ℕ) (a : ℕ → ℕ) (up : SetUp P S a) where
   chosen : ℕ → ℕ → Bool

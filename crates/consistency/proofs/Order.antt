@@ -7,10 +7,13 @@ use Rattle.masks.specs.Bits.{bit, bit_of-zero, Within}
 use Rattle.masks.specs.Sets.{◌⊆◌, ⊆_antisymm}
 use Rattle.consistency.specs.Largest.{IsLargest_stricter, IsLargest_iff}
 use Rattle.consistency.specs.Problem.{Problem, In, all_fields}
-use Rattle.consistency.specs.Closing.{Closed, closing, closing-is}
-use Rattle.consistency.specs.Neighbourhood.{neighbourhood, neighbourhood-more}
-use Rattle.consistency.specs.Passing.{passing_wider}
-use Rattle.consistency.specs.Offers.{PartiallyConsistent, offers, offers-is, offers_unique}
+use Rattle.consistency.specs.Closing.{Closed, closing}
+use Rattle.consistency.proofs.Closing.{closing-is}
+use Rattle.consistency.specs.Neighbourhood.{neighbourhood}
+use Rattle.consistency.proofs.Neighbourhood.{neighbourhood-more}
+use Rattle.consistency.proofs.Passing.{passing_wider}
+use Rattle.consistency.specs.Offers.{PartiallyConsistent, offers}
+use Rattle.consistency.proofs.Offers.{offers-is, offers_unique}
 
 module _ (P : Problem) where
   -- ---- more selected fields and wider neighbourhoods ask more, so they offer no more

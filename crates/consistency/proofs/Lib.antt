@@ -1,0 +1,14 @@
+pub mod AllSelected
+pub mod Closing
+pub mod Left
+pub mod Again
+pub mod Neighbourhood
+pub mod Offers
+pub mod Order
+pub mod Padding
+pub mod Passing
+pub mod Revising
+pub mod Runs
+pub mod SetUps
+pub mod Triples
+pub mod TwoInside
