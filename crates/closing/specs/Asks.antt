@@ -16,7 +16,8 @@ use Rattle.masks.specs.Settings.{cut, cut_⊆, cut_by, lose, lose_⊆, lose-by, 
 use Rattle.removal_list.specs.Count.{Small, count_most}
 use Rattle.removal_list.specs.Moved.{Moved, without, has-without, length_without}
 use Rattle.consistency.specs.Problem.{has_field, Problem, triple_at, all_fields, in_all_fields, all_fields_bound}
-use Rattle.consistency.specs.Closing.{closing, closing-is}
+use Rattle.consistency.specs.Closing.{closing}
+use Rattle.consistency.proofs.Closing.{closing-is}
 use Rattle.consistency.specs.Revising.{rules_only, closed_under-other}
 use Rattle.consistency.specs.Passing.{NoneEmpty, none_empty, none_empty-at}
 use Rattle.network.specs.Tables.{rule_problem, Wired}

@@ -11,10 +11,12 @@ use Rattle.masks.specs.Settings.{cut, cut_⊆, cut_at, cut_by, length_cut, lose,
 use Rattle.masks.specs.Settings.{empty-not, some_empty}
 use Rattle.masks.specs.Restrict.{restrict_⊆, restrict-at}
 use Rattle.consistency.specs.Problem.{Problem, In, OnFields, all_fields, in_all_fields}
-use Rattle.consistency.specs.Closing.{Closed, closing, closing-is}
+use Rattle.consistency.specs.Closing.{Closed, closing}
+use Rattle.consistency.proofs.Closing.{closing-is}
 use Rattle.consistency.specs.Passing.{NoneEmpty, none_empty, none_empty-at, none_empty-by, none_empty_mono, left, passes_over}
-use Rattle.consistency.specs.Left.{passes-still}
-use Rattle.consistency.specs.Offers.{offers, offers-is, offers-lose, offers_in_closing, offers_between, wiped_out, wiped_out-by}
+use Rattle.consistency.proofs.Again.{passes-still}
+use Rattle.consistency.specs.Offers.{offers, wiped_out}
+use Rattle.consistency.proofs.Offers.{offers-is, offers-lose, offers_in_closing, offers_between, wiped_out-by}
 use Rattle.pruning.specs.Shrunk.{Shrunk}
 use Rattle.pruning.specs.Close.{Closes}
 

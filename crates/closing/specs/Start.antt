@@ -7,9 +7,10 @@ use Rattle.masks.specs.Tests.{never, not_so}
 use Rattle.masks.specs.Bits.{bit}
 use Rattle.masks.specs.Sets.{◌⊆◌}
 use Rattle.consistency.specs.Problem.{has_first, Problem, triple_at, field_below, all_fields, in_all_fields, all_fields_bound}
-use Rattle.consistency.specs.Closing.{closing, closing_between}
+use Rattle.consistency.specs.Closing.{closing}
+use Rattle.consistency.proofs.Closing.{closing_between}
 use Rattle.consistency.specs.Passing.{none_empty, none_empty-at, none_empty-by, none_empty_mono}
-use Rattle.consistency.specs.Revising.{closing_in_rules}
+use Rattle.consistency.proofs.Revising.{closing_in_rules}
 use Rattle.network.specs.Tables.{rule_problem}
 use Rattle.network.specs.TripleTable.{problem_of, rules-of, no_triples, triples_in}
 use Rattle.pruning.specs.Shrunk.{or-within, shrunk-then}

@@ -6,9 +6,10 @@ use Rattle.masks.specs.Bits.{bit}
 use Rattle.masks.specs.Sets.{has}
 use Rattle.masks.specs.Settings.{some_empty}
 use Rattle.consistency.specs.Problem.{Problem, in_all_fields}
-use Rattle.consistency.specs.Neighbourhood.{neighbourhood, neighbourhood_bound, neighbourhood-self, neighbourhood-symmetric}
+use Rattle.consistency.specs.Neighbourhood.{neighbourhood}
+use Rattle.consistency.proofs.Neighbourhood.{neighbourhood_bound, neighbourhood-self, neighbourhood-symmetric}
 use Rattle.consistency.specs.Offers.{wiped_out}
-use Rattle.consistency.specs.Order.{offers-same-hoods}
+use Rattle.consistency.proofs.Order.{offers-same-hoods}
 use Rattle.accepted.specs.Parts.{fields_of, reach_of}
 use Rattle.network.specs.declared.build.Network.{Network}
 use Rattle.network.specs.TripleTable.{problem_of}

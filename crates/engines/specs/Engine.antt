@@ -10,10 +10,12 @@ use Rattle.masks.specs.Sets.{has, ◌⊆◌}
 use Rattle.masks.specs.Settings.{empty, some_empty, some_empty-at, some_empty-by}
 use Rattle.consistency.specs.Largest.{IsLargest-self}
 use Rattle.consistency.specs.Problem.{Problem, In, OnFields, all_fields, in_all_fields}
-use Rattle.consistency.specs.Closing.{closing-is}
+use Rattle.consistency.proofs.Closing.{closing-is}
 use Rattle.consistency.specs.Passing.{NoneEmpty, none_empty-at, passes_over, passes_over-at}
-use Rattle.consistency.specs.Offers.{PartiallyConsistent, offers, offers-is, offers_unique, offers_in_closing, offers_of-closing}
-use Rattle.consistency.specs.Offers.{wiped_out, wiped_out-by}
+use Rattle.consistency.specs.Offers.{PartiallyConsistent, offers}
+use Rattle.consistency.proofs.Offers.{offers-is, offers_unique, offers_in_closing, offers_of-closing}
+use Rattle.consistency.specs.Offers.{wiped_out}
+use Rattle.consistency.proofs.Offers.{wiped_out-by}
 use Rattle.pruning.specs.Shrunk.{Shrunk, shrunk-none, shrunk-then, or-within}
 use Rattle.pruning.specs.Close.{Closes}
 use Rattle.closing.specs.Frame.{Live, wiped-by, wiped-same}

@@ -13,7 +13,8 @@ use Rattle.counter.specs.Counts.{count_at, OnlyTowards, Uncounted, other-count, 
 use Rattle.removal_list.specs.Count.{Small, count_most}
 use Rattle.removal_list.specs.Moved.{Moved, moved_none, moved_then}
 use Rattle.consistency.specs.Problem.{Problem, Symmetric, In, all_fields, in_all_fields, all_fields_bound}
-use Rattle.consistency.specs.Closing.{closing, closing-is}
+use Rattle.consistency.specs.Closing.{closing}
+use Rattle.consistency.proofs.Closing.{closing-is}
 use Rattle.consistency.specs.Revising.{NoTriples}
 use Rattle.consistency.specs.Passing.{NoneEmpty, none_empty}
 use Rattle.pruning.specs.Counting.{how_many, count_below_cong, count_below-by}

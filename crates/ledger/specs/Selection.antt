@@ -11,9 +11,11 @@ use Rattle.masks.specs.Sets.{has, ◌⊆◌}
 use Rattle.consistency.specs.Problem.{Problem, OnFields, all_fields}
 use Rattle.consistency.specs.Largest.{IsLargest}
 use Rattle.consistency.specs.Neighbourhood.{neighbourhood}
-use Rattle.consistency.specs.Offers.{PartiallyConsistent, offers-is}
-use Rattle.consistency.specs.AllSelected.{offers_all_tested, offers_all_selected}
-use Rattle.consistency.specs.Order.{offers-more-selected}
+use Rattle.consistency.specs.Offers.{PartiallyConsistent}
+use Rattle.consistency.proofs.Offers.{offers-is}
+use Rattle.consistency.specs.AllSelected.{offers_all_tested}
+use Rattle.consistency.proofs.AllSelected.{offers_all_selected}
+use Rattle.consistency.proofs.Order.{offers-more-selected}
 use Rattle.sheet.specs.Sources.{Accepted}
 use Rattle.accepted.specs.declared.outline.Outline.{Outline}
 use Rattle.accepted.specs.Lists.{tabulate-past}

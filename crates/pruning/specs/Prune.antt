@@ -16,7 +16,8 @@ use Rattle.counter.specs.Counts.{count_at, OnlyTowards, Lowered, other-count, on
 use Rattle.removal_list.specs.Count.{Small}
 use Rattle.removal_list.specs.Moved.{number_of, Moved, moved_none, moved_then}
 use Rattle.consistency.specs.Problem.{Problem, In}
-use Rattle.consistency.specs.Closing.{closing, closing-is, closing-self, closing_between}
+use Rattle.consistency.specs.Closing.{closing}
+use Rattle.consistency.proofs.Closing.{closing-is, closing-self, closing_between}
 use Rattle.consistency.specs.Revising.{NoTriples}
 use Rattle.consistency.specs.Passing.{NoneEmpty, none_empty, none_empty-at, none_empty-by}
 use Rattle.pruning.specs.Shrunk.{or-not, or-within, one-within, small_⊆, Shrunk, shrunk-none, shrunk-then}

@@ -10,9 +10,11 @@ use Rattle.masks.specs.Words.{bit-or, clear, clear-other, clear_within, clear-lt
 use Rattle.masks.specs.Sets.{◌⊆◌, count}
 use Rattle.removal_list.specs.Moved.{Moved, moved_none, moved_then}
 use Rattle.consistency.specs.Problem.{has_field, Problem, triple_at}
-use Rattle.consistency.specs.Closing.{closing, closing-is, closing-self, closing_between}
+use Rattle.consistency.specs.Closing.{closing}
+use Rattle.consistency.proofs.Closing.{closing-is, closing-self, closing_between}
 use Rattle.consistency.specs.Passing.{none_empty, none_empty-by}
-use Rattle.consistency.specs.Revising.{rules_only, ClosedUnder, closed_both, closed_under-same, closing_of_rules}
+use Rattle.consistency.specs.Revising.{rules_only, ClosedUnder, closed_both, closed_under-same}
+use Rattle.consistency.proofs.Revising.{closing_of_rules}
 use Rattle.pruning.specs.Shrunk.{or-not, zero_or, or-within, Shrunk, shrunk-none, shrunk-then, shrunk-still, shrunk_fewer}
 use Rattle.pruning.specs.Prune.{OnlySpent, Pruned}
 use Rattle.revising.specs.Turn.{Emptied, closing-none, Turned}

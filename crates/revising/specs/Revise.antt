@@ -16,8 +16,10 @@ use Rattle.masks.specs.Bits.{bit, bit_of-zero, bit_bound}
 use Rattle.masks.specs.Words.{bit-and, bit-or, bit-xor, bit-one}
 use Rattle.masks.specs.Sets.{has, has_ext, length-only}
 use Rattle.consistency.specs.Problem.{Triple, has_field, has_first, has-second, has-third, field-cases, Problem}
-use Rattle.consistency.specs.Triples.{Together, together, together_at, together-by}
-use Rattle.consistency.specs.Revising.{revised, length-revised, revised_⊆, revised-at, revised-by}
+use Rattle.consistency.specs.Triples.{Together, together}
+use Rattle.consistency.proofs.Triples.{together_at, together-by}
+use Rattle.consistency.specs.Revising.{revised, length-revised, revised_⊆}
+use Rattle.consistency.proofs.Revising.{revised-at, revised-by}
 use Rattle.network.specs.TripleTable.{triple_count, triple_block, triple_rows, word_at, triple_in, problem_of, TripleTable}
 use Rattle.pruning.specs.Drop.{dropped, has-dropped}
 use Rattle.revising.specs.Support.{Supported3}

@@ -10,10 +10,12 @@ use Rattle.masks.specs.Settings.{empty}
 use Rattle.removal_list.specs.Count.{Small}
 use Rattle.removal_list.specs.Moved.{Moved, moved_then}
 use Rattle.consistency.specs.Problem.{Problem, triple_at, TripleIn}
-use Rattle.consistency.specs.Closing.{Closed, closing, closing-is, closing_between}
+use Rattle.consistency.specs.Closing.{Closed, closing}
+use Rattle.consistency.proofs.Closing.{closing-is, closing_between}
 use Rattle.consistency.specs.Passing.{NoneEmpty, none_empty, none_empty-at, none_empty-by, none_empty_mono}
-use Rattle.consistency.specs.Revising.{rules_only, rules-alone, none_empty-rules, ClosedUnder, closing_in_rules, revised}
-use Rattle.consistency.specs.Revising.{revised_closed, closing_in_revised, revised-empty}
+use Rattle.consistency.specs.Revising.{rules_only, rules-alone, none_empty-rules, ClosedUnder, revised}
+use Rattle.consistency.proofs.Revising.{closing_in_rules}
+use Rattle.consistency.proofs.Revising.{revised_closed, closing_in_revised, revised-empty}
 use Rattle.pruning.specs.Shrunk.{small_⊆, Shrunk}
 use Rattle.pruning.specs.Supports.{Counts, Supports, supports-less, closed_positive}
 use Rattle.pruning.specs.Drop.{dropped, Dropped}

@@ -16,7 +16,8 @@ use Rattle.masks.specs.Words.{bit-or, bit-one}
 use Rattle.masks.specs.Sets.{has, ◌⊆◌, ⊆_refl, ⊆_trans, get_d_zeros}
 use Rattle.consistency.specs.Problem.{Problem, all_fields}
 use Rattle.consistency.specs.Passing.{passes_over}
-use Rattle.consistency.specs.Left.{left_in, passes_over_again}
+use Rattle.consistency.specs.Left.{left_in}
+use Rattle.consistency.proofs.Again.{passes_over_again}
 use Rattle.network.specs.Stored.{Stored, words_of}
 use Rattle.closing.specs.Asks.{Masks}
 use Rattle.visiting.specs.declared.store.CheckResult.{CheckResult}
