@@ -1,10 +1,8 @@
 use mathlib.Core.Path.{◌≡◌, refl, sym, ap, ◌∙◌}
 use mathlib.Core.Bool.{true, true≢false}
-use Prim.Native.Nat.{◌<◌}
 use native.Mathlib.Omega.{arith}
 use lib.Bits.{and_le_l}
 use lib.ListN.{get_or}
-use Rattle.limits.specs.Limits.{most_fields}
 use Rattle.masks.specs.Words.{clear-lt}
 use Rattle.closing.specs.Asks.{asks-shrunk}
 use Rattle.visiting.specs.declared.store.CheckResult.{CheckResult}
