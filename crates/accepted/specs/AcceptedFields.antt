@@ -1,6 +1,7 @@
 -- The fields of an accepted list: what it has from each place of a field on. Assumes nothing.
 use Rattle.std.specs.Prelude.{◌≡◌, refl, List, [], ◌∷◌, ◌++◌, ℕ, zero, suc, ◌+◌, ◌-◌, ◌<◌, ◌≤◌, ltb, leb, eqb, length, get_or, set}
-use Rattle.std.proofs.Common.{sym, ap, ap₂, ◌∙◌, ⊎_elim, append_assoc, add-zero, arith, length-set, get_or-set_same, get_or-set_other, leb-true, ltb-true, ltb-false, eqb-true}
+use Rattle.std.proofs.Common.{sym, ap, ap₂, ◌∙◌, ⊎_elim, append_assoc, add-zero, arith, length-set, get_or-set_same, get_or-set_other}
+use Rattle.std.proofs.Common.{leb-true, ltb-true, ltb-false, eqb-true}
 use Rattle.std.proofs.lemmas.Bool.{eqb-false}
 use Rattle.masks.specs.Pick.{pick}
 use Rattle.limits.specs.Limits.{most_settings, largest_setting}

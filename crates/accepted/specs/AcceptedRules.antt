@@ -72,7 +72,8 @@ pub record RuleIn (left floor n : ℕ) (ds ys : List ℕ) : Type 0 where
   pub on : refusal_from (after_rule n left (key rule.i rule.j + 1)) ds (of_numbers rest) ≡ 0
 
 rule-of : (left floor n i j kind : ℕ) (ds ys : List ℕ) → i < j → j < n → floor ≤ key i j → kind ≤ last_kind → 1 ≤ get_or ds i 0
-    → refusal_from (after_kind n left (key i j + 1) j (get_or ds i 0) kind) ds (of_numbers ys) ≡ 0 → RuleIn left floor n ds (i ∷ j ∷ kind ∷ ys)
+    → refusal_from (after_kind n left (key i j + 1) j (get_or ds i 0) kind) ds (of_numbers ys) ≡ 0
+    → RuleIn left floor n ds (i ∷ j ∷ kind ∷ ys)
 rule-of left floor n i j kind ds ys a b c d s e =
     ⊎_elim
     (λ r. let t = masks_in ys left (key i j + 1) j (get_or ds i 0 - 1) n ds r.1 in record {

@@ -73,7 +73,8 @@ unfolding refusal_from advance
 end_in [] ds e = refl
 end_in (x ∷ ys) ds e = absurd (omega arith)
 
-triples_in : (left floor n : ℕ) (ds ys : List ℕ) → refusal_from (after_triple n left floor) ds (of_numbers ys) ≡ 0 → TriplesIn left floor n ys
+triples_in : (left floor n : ℕ) (ds ys : List ℕ) → refusal_from (after_triple n left floor) ds (of_numbers ys) ≡ 0
+    → TriplesIn left floor n ys
 unfolding triples_numbers
 triples_in zero floor n ds ys e =
     ⊎_elim (λ r. record { triples = []; split = end_in ys ds r.1; size = refl; tripled = tripled-none })

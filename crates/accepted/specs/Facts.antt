@@ -48,7 +48,8 @@ pub record Facts (xs : List ℕ) : Type 0 where
       → triple_key (triple_first xs t) (triple_second xs t) (triple_third xs t)
       < triple_key (triple_first xs (suc t)) (triple_second xs (suc t)) (triple_third xs (suc t))
 
-rises-at : (floor : ℕ) (xs : List ℕ) → Rises floor xs → (v : ℕ) → v < length xs → (floor ≤ get_or xs v 0) × (get_or xs v 0 ≤ largest_setting)
+rises-at : (floor : ℕ) (xs : List ℕ) → Rises floor xs → (v : ℕ) → v < length xs
+    → (floor ≤ get_or xs v 0) × (get_or xs v 0 ≤ largest_setting)
 rises-at floor xs rises-none v h = absurd (omega arith)
 rises-at floor xs (rises-one {xs = ys} p q t) zero h = (p, q)
 rises-at floor xs (rises-one {x = x} {xs = ys} p q t) (suc v) h = let r = rises-at (x + 1) ys t v (omega arith) in (omega arith, r.1)

@@ -65,11 +65,13 @@ module _ (xs : List ℕ) (g : Facts xs) where
       × ((triple_second xs t < triple_second xs u)
       ⊎ ((triple_second xs t ≡ triple_second xs u) × (triple_third xs t < triple_third xs u))))
   triples-rise t u p q =
-      lexicographic (triple_first xs t) (triple_second xs t) (triple_third xs t) (triple_first xs u) (triple_second xs u) (triple_third xs u)
+      lexicographic (triple_first xs t) (triple_second xs t) (triple_third xs t)
+      (triple_first xs u) (triple_second xs u) (triple_third xs u)
       (let a = g.triple-above u q in let b = g.triple-within u q in let n = g.fields-few in omega arith)
       (let b = g.triple-within u q in let n = g.fields-few in omega arith)
       (triple_keys_rise t u p q)
 
-  pub no_triple-twice : (t u : ℕ) → t < u → u < triples_of xs → triple_first xs t ≡ triple_first xs u → triple_second xs t ≡ triple_second xs u
+  pub no_triple-twice : (t u : ℕ) → t < u → u < triples_of xs → triple_first xs t ≡ triple_first xs u
+      → triple_second xs t ≡ triple_second xs u
       → triple_third xs t ≡ triple_third xs u → ⊥
   no_triple-twice t u p q i j k = omega (arith, triple_keys_rise t u p q, i, j, k)

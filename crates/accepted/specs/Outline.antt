@@ -41,12 +41,14 @@ module _ (xs : List ℕ) where
   pub full_at : (f : ℕ) → f < fields_of xs → get_or (outline_of xs).full f 0 ≡ settings_of xs f
   unfolding outline_of
   full_at f h =
-      get_d_pad (most_fields - fields_of xs) (tabulate (fields_of xs) (settings_of xs)) f ∙ get_d_tabulate (fields_of xs) (settings_of xs) f h
+      get_d_pad (most_fields - fields_of xs) (tabulate (fields_of xs) (settings_of xs)) f
+      ∙ get_d_tabulate (fields_of xs) (settings_of xs) f h
 
   pub full-past : (f : ℕ) → fields_of xs ≤ f → get_or (outline_of xs).full f 0 ≡ 0
   unfolding outline_of
   full-past f h =
-      get_d_pad (most_fields - fields_of xs) (tabulate (fields_of xs) (settings_of xs)) f ∙ tabulate-past (fields_of xs) (settings_of xs) f h
+      get_d_pad (most_fields - fields_of xs) (tabulate (fields_of xs) (settings_of xs)) f
+      ∙ tabulate-past (fields_of xs) (settings_of xs) f h
 
   -- a setting is on the sheet where its field and its position are
   pub full-has : (f v : ℕ) → has (outline_of xs).full f v ≡ (ltb f (fields_of xs) && ltb v (count_of xs f))

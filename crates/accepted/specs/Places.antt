@@ -11,7 +11,8 @@ use Rattle.masks.specs.Pick.{pick_true, pick-false}
 use Rattle.accepted.specs.Sheets.{Rule, Triple, Sheet, fields_numbers, rules_numbers, triples_numbers, triples_part, sheet_numbers}
 use Rattle.accepted.specs.Sheets.{RuleRight, Ruled, ruled-none, ruled-one, TripleRight, Tripled, tripled-none}
 use Rattle.accepted.specs.Sheets.{tripled-one, counted, IsSheet}
-use Rattle.accepted.specs.Parts.{field_start, fields_of, count_of, setting_of, reach_of, rules_of, values_at, rule_start, first_of, second_of}
+use Rattle.accepted.specs.Parts.{field_start, fields_of, count_of, setting_of, reach_of, rules_of, values_at, rule_start, first_of}
+use Rattle.accepted.specs.Parts.{second_of}
 use Rattle.accepted.specs.Parts.{kind_of, value_of, triples_at, triples_of, triple_start, triple_first, triple_second}
 use Rattle.accepted.specs.Parts.{triple_third, triple_number}
 
@@ -120,8 +121,14 @@ module _ (xs : List ℕ) (t : IsSheet xs) where
   field-ends f h =
       let e =
       ap length
-      (drop_past xs (field_start xs f) (length (get_or fs f []) ∷ get_or fs f []) (fields_numbers (drop (suc f) fs) ++ tail) (field_at f h)) in
-      omega (arith, e, length-drop (field_start xs f + suc (length (get_or fs f []))) xs, length-append (fields_numbers (drop (suc f) fs)) tail)
+      (drop_past xs (field_start xs f) (length (get_or fs f []) ∷ get_or fs f []) (fields_numbers (drop (suc f) fs) ++ tail)
+      (field_at f h)) in
+      omega (
+        arith,
+        e,
+        length-drop (field_start xs f + suc (length (get_or fs f []))) xs,
+        length-append (fields_numbers (drop (suc f) fs)) tail,
+      )
 
   end_from : drop (field_start xs (fields_of xs)) xs ≡ tail
   unfolding fields_numbers
@@ -163,7 +170,8 @@ module _ (xs : List ℕ) (t : IsSheet xs) where
       ∙ append_assoc (rule_part (get_or rs r no_rule)) (rules_numbers (drop (suc r) rs)) last
 
   -- as many numbers as its kind has
-  values-size : (p r : ℕ) → r < length rs → drop p xs ≡ rules_numbers (drop r rs) ++ last → values_at xs p ≡ length (get_or rs r no_rule).values
+  values-size : (p r : ℕ) → r < length rs → drop p xs ≡ rules_numbers (drop r rs) ++ last
+      → values_at xs p ≡ length (get_or rs r no_rule).values
   values-size p r h e =
       let g = rule-right r h in
       let q = rule-from p r h e in
@@ -232,7 +240,8 @@ module _ (xs : List ℕ) (t : IsSheet xs) where
 
   pub triples-is : triples_of xs ≡ length ts
   triples-is =
-      ap (λ (k : ℕ). get_or xs k 0) (sym (add-zero (triples_at xs))) ∙ get_d_at xs (triples_at xs) 0 _ (triples_part ts) part-from (part_count ts)
+      ap (λ (k : ℕ). get_or xs k 0) (sym (add-zero (triples_at xs)))
+      ∙ get_d_at xs (triples_at xs) 0 _ (triples_part ts) part-from (part_count ts)
 
   -- a triple in front of those after it
   triple-from : (p k : ℕ) → k < length ts → drop p xs ≡ triples_numbers (drop k ts)

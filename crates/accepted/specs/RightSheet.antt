@@ -1,6 +1,8 @@
 -- The numbers of a right sheet are accepted, and the writer refuses them where a rule has the retired kind. Assumes nothing.
-use Rattle.std.specs.Prelude.{◌≡◌, refl, Bool, true, false, ◌&&◌, ◌||◌, List, [], ◌∷◌, ◌++◌, ℕ, zero, suc, ◌+◌, ◌-◌, ◌^◌, ◌<◌, ◌≤◌, ltb, eqb, length, get_or, set}
-use Rattle.std.proofs.Common.{sym, ap, ap₂, ◌∙◌, inl, inr, append_assoc, add-zero, zero-add, arith, length-set, get_or-set_same, get_or-set_other, lt-ltb, le-ltb, le-leb, eq-eqb, ne_eqb}
+use Rattle.std.specs.Prelude.{◌≡◌, refl, Bool, true, false, ◌&&◌, ◌||◌, List, [], ◌∷◌, ◌++◌, ℕ, zero, suc, ◌+◌, ◌-◌, ◌^◌, ◌<◌, ◌≤◌, ltb}
+use Rattle.std.specs.Prelude.{eqb, length, get_or, set}
+use Rattle.std.proofs.Common.{sym, ap, ap₂, ◌∙◌, inl, inr, append_assoc, add-zero, zero-add, arith, length-set, get_or-set_same}
+use Rattle.std.proofs.Common.{get_or-set_other, lt-ltb, le-ltb, le-leb, eq-eqb, ne_eqb}
 use Rattle.masks.specs.Pick.{pick, pick_true, pick-false}
 use Rattle.limits.specs.Limits.{most_fields, most_settings, largest_setting, whole_reach, most_rules, most_triples, last_kind, retired_kind}
 use Rattle.grammar.specs.Grammar.{advance, start, no_counts, up_to, after_field, after_rule, after_kind, key, after_triple, triple_key}

@@ -1,12 +1,15 @@
 -- There and back: bytes that are numbers are their numbers' bytes, and the bytes of numbers below 2 ^ 28 are read as those.
 -- Assumes nothing.
-use Rattle.std.specs.Prelude.{◌≡◌, refl, Bool, true, false, ◌&&◌, List, [], ◌∷◌, ◌++◌, ℕ, zero, suc, ◌+◌, ◌-◌, ◌*◌, ◌/◌, ◌%◌, ◌^◌, ◌<◌, ◌≤◌, ltb, eqb, length, drop, get_or}
-use Rattle.std.proofs.Common.{sym, ap, ap₂, ◌∙◌, ⊎_elim, append_assoc, mul-add, mul_assoc, pow-suc, div-lt_iff_lt-mul, add-sub_cancel, arith, length-append, drop_of_length-le, drop-drop, lt-ltb, le-ltb, ltb-true, ltb-false, eqb-true}
+use Rattle.std.specs.Prelude.{◌≡◌, refl, Bool, true, false, ◌&&◌, List, [], ◌∷◌, ◌++◌, ℕ, zero, suc, ◌+◌, ◌-◌, ◌*◌, ◌/◌, ◌%◌, ◌^◌, ◌<◌, ◌≤◌}
+use Rattle.std.specs.Prelude.{ltb, eqb, length, drop, get_or}
+use Rattle.std.proofs.Common.{sym, ap, ap₂, ◌∙◌, ⊎_elim, append_assoc, mul-add, mul_assoc, pow-suc, div-lt_iff_lt-mul, add-sub_cancel}
+use Rattle.std.proofs.Common.{arith, length-append, drop_of_length-le, drop-drop, lt-ltb, le-ltb, ltb-true, ltb-false, eqb-true}
 use Rattle.std.proofs.Math.Nat.{mod-add-div}
 use Rattle.std.proofs.Math.Seq.{drop-append_seam}
 use Rattle.std.proofs.lemmas.Bool.{eqb-false}
 use Rattle.masks.specs.Pick.{pick_true, pick-false}
-use Rattle.groups.specs.Groups.{groups, number_at, encode_in, encode, encode-some, encode_in-last, encode_in-suc, groups-number, groups_nothing}
+use Rattle.groups.specs.Groups.{groups, number_at, encode_in, encode, encode-some, encode_in-last, encode_in-suc, groups-number}
+use Rattle.groups.specs.Groups.{groups_nothing}
 use Rattle.groups.specs.Groups.{groups-empty}
 use Rattle.groups.specs.declared.groups.Number.{Number}
 use Rattle.groups.specs.declared.groups.Number.TheVariants.{Value, Ended, IllFormed}

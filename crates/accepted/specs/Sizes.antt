@@ -68,7 +68,8 @@ sized-more room most room' most' xs p q t = record { bytes = omega (arith, t.byt
 bytes-append : (xs ys : List ℕ) → bytes_of (xs ++ ys) ≡ bytes_of xs ++ bytes_of ys
 unfolding bytes_of
 bytes-append [] ys = refl
-bytes-append (x ∷ xs) ys = ap (λ (l : List ℕ). encode x ++ l) (bytes-append xs ys) ∙ sym (append_assoc (encode x) (bytes_of xs) (bytes_of ys))
+bytes-append (x ∷ xs) ys =
+    ap (λ (l : List ℕ). encode x ++ l) (bytes-append xs ys) ∙ sym (append_assoc (encode x) (bytes_of xs) (bytes_of ys))
 
 sized-append : (room most room' most' : ℕ) (xs ys : List ℕ) → Sized room most xs → Sized room' most' ys
     → Sized (room + room') (most + most') (xs ++ ys)

@@ -4,7 +4,8 @@ use Rattle.std.proofs.Common.{sym, ap, ap₂, ◌∙◌, arith, le-leb, eq-eqb, 
 use Rattle.masks.specs.Pick.{pick, pick_true, pick-false}
 use Rattle.limits.specs.Limits.{most_bytes, most_numbers}
 use Rattle.limits.specs.Refusals.{RETIRED}
-use Rattle.sheet.specs.Sources.{refusal, numbers, of_bytes, of_numbers, bytes_of, Accepted, AcceptedBytes, produced, refusing, giving, reading}
+use Rattle.sheet.specs.Sources.{refusal, numbers, of_bytes, of_numbers, bytes_of, Accepted, AcceptedBytes, produced, refusing, giving}
+use Rattle.sheet.specs.Sources.{reading}
 use Rattle.sheet.specs.Sources.{retired, Writable, writing}
 use Rattle.accepted.specs.Round.{numbers-bytes, bytes-numbers}
 use Rattle.accepted.specs.Accept.{accepted-numbers, bytes-accepted}

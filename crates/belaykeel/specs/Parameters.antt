@@ -7,7 +7,7 @@
 --     opening, deciding    those of open, which takes the mask of the selected fields, and of a call that takes a field and a position
 use Rattle.std.specs.Prelude.{List, [], ◌∷◌, ℕ}
 use Rattle.std.specs.Int.{Width, w8, w32}
-use Rattle.std.specs.Borrow.{Bor}
+use Rattle.std.specs.Borrow.{Bor, MutBor}
 
 pub data Kind : Type 0 where
   number shared lent : Width → Kind
@@ -28,7 +28,7 @@ abbrev pub Passed : List Kind → Type 0
 Passed [] = Unit {0}
 Passed (number w ∷ ks) = ℕ × Passed ks
 Passed (shared w ∷ ks) = Bor (List ℕ) × Passed ks
-Passed (lent w ∷ ks) = Bor (List ℕ) × Passed ks
+Passed (lent w ∷ ks) = MutBor (List ℕ) × Passed ks
 
 abbrev pub entering {ℓ} : (ks : List Kind) {X : Type ℓ} → AtEntry ks X → Passed ks → X
 entering [] f x = f

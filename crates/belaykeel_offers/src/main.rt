@@ -2,7 +2,7 @@
 // line for each field with its position and the settings offered, or the number of the refusal.
 #![tactic(auto)]
 
-ghost use Rattle.std.specs.Prelude.{◌≡◌, ◌≤◌, length, take};
+ghost use Rattle.std.specs.Prelude.{◌≡◌, ◌≤◌, IfOk, length, take};
 ghost use Rattle.limits.specs.Limits.{most_fields, most_numbers, offers_words, text_bytes};
 ghost use Rattle.belaykeel_offers.specs.Input.{input_bytes};
 ghost use Rattle.belaykeel_offers.specs.Opening.{opening, Opened};
@@ -10,13 +10,14 @@ ghost use Rattle.belaykeel_offers.specs.Page.{page_of};
 
 use accepted::parts;
 use calls::open;
-use libc::{STDIN_FILENO, STDOUT_FILENO};
 use limits::{MEMORY_WORDS, MOST_NUMBERS, OFFERS_WORDS, ROWS_WORDS, TEXT_BYTES};
 use network::hoods::all_fields;
 use printing::text;
 use session::fresh;
 use sheet::answer::{Answer, answered};
 use sheet::reading::read;
+use std::io;
+use std::io::Read;
 
 const INPUT_BYTES: usize = 32768;
 
@@ -79,10 +80,25 @@ fn input_room() -> [u8; INPUT_BYTES]
     [0u8; INPUT_BYTES]
 }
 
-fn main() {
+// Reads until the room is full or the input ends; how many bytes stand at the room's front.
+fn read_full<R: Read>(from: &mut R, room: &mut [u8]) -> io::Result<usize>
+    ensures { IfOk result (λ n. n ≤ length room.new) }
+{
+    let mut done = 0;
+    while done < room.len() {
+        let n = from.read(&mut room[done..])?;
+        if n == 0 {
+            break;
+        }
+        done += n;
+    }
+    Ok(done)
+}
+
+fn main(rt: HostRuntime) -> io::Result<()> {
     let mut input = input_room();
     let mut output = [0u8; TEXT_BYTES];
-    let n = io::read_full(STDIN_FILENO, &mut input);
+    let n = read_full(&mut rt.reader(), &mut input)?;
     let length = page(&input[..n], &mut output);
-    io::write_all(STDOUT_FILENO, &output[..length]);
+    rt.write_all(&output[..length])
 }

@@ -1,52 +1,57 @@
 // The lines that the cases print.
-use libc::STDOUT_FILENO;
 use limits::OFFERS_WORDS;
 use session::Session;
+use std::io;
 
-pub fn text(s: &[u8]) {
-    io::write_all(STDOUT_FILENO, s);
+pub fn text(rt: &impl Print, s: &[u8]) -> io::Result<()> {
+    rt.write_all(s)
 }
 
-pub fn number(x: u32) {
-    io::print_decimal(STDOUT_FILENO, x as u64);
+pub fn number(rt: &impl Print, x: u32) -> io::Result<()> {
+    rt.print(x)
 }
 
 // A line of text alone.
-pub fn heading(s: &[u8]) {
-    text(s);
-    text(b"\n");
+pub fn heading(rt: &impl Print, s: &[u8]) -> io::Result<()> {
+    text(rt, s)?;
+    text(rt, b"\n")
 }
 
 // A name and a number.
-pub fn named(name: &[u8], x: u32) {
-    text(name);
-    text(b" ");
-    number(x);
-    text(b"\n");
+pub fn named(rt: &impl Print, name: &[u8], x: u32) -> io::Result<()> {
+    text(rt, name)?;
+    text(rt, b" ")?;
+    number(rt, x)?;
+    text(rt, b"\n")
 }
 
-fn two(x: u32, y: u32) {
-    text(b" | ");
-    number(x);
-    text(b" ");
-    number(y);
+fn two(rt: &impl Print, x: u32, y: u32) -> io::Result<()> {
+    text(rt, b" | ")?;
+    number(rt, x)?;
+    text(rt, b" ")?;
+    number(rt, y)
 }
 
 // What a call answered.
-pub fn answered(answer: u32, offers: &[u32; OFFERS_WORDS], session: Session) {
+pub fn answered(
+    rt: &impl Print,
+    answer: u32,
+    offers: &[u32; OFFERS_WORDS],
+    session: Session,
+) -> io::Result<()> {
     let d = session.decisions;
     let choices = d.choices;
     let strikes = d.strikes;
-    text(b": ");
-    number(answer);
-    two(offers[0], offers[1]);
-    text(b" ");
-    number(offers[2]);
-    two(choices[0], choices[1]);
-    two(strikes[0], strikes[1]);
-    text(b" | ");
-    number(session.count);
-    named(b" |", session.selected);
+    text(rt, b": ")?;
+    number(rt, answer)?;
+    two(rt, offers[0], offers[1])?;
+    text(rt, b" ")?;
+    number(rt, offers[2])?;
+    two(rt, choices[0], choices[1])?;
+    two(rt, strikes[0], strikes[1])?;
+    text(rt, b" | ")?;
+    number(rt, session.count)?;
+    named(rt, b" |", session.selected)
 }
 
 // How many words are not what all were before.
@@ -63,9 +68,9 @@ fn changed(words: &[u32], before: u32) -> usize {
 }
 
 // How many words of a space have changed.
-pub fn space(words: &[u32], before: u32) {
-    text(b", changed ");
-    io::print_decimal(STDOUT_FILENO, changed(words, before) as u64);
-    text(b" of ");
-    io::print_decimal(STDOUT_FILENO, words.len() as u64);
+pub fn space(rt: &impl Print, words: &[u32], before: u32) -> io::Result<()> {
+    text(rt, b", changed ")?;
+    rt.print(changed(words, before))?;
+    text(rt, b" of ")?;
+    rt.print(words.len())
 }

@@ -14,12 +14,13 @@ use ledger::{STRIKE, WITHDRAW_STRIKE};
 use run::{decides, quiet, started};
 use script::play;
 use session::{Session, fresh};
+use std::io;
 
 // Sheet D by an engine: a strike withdrawn before the choice made after it, and single decisions.
-fn sheet_d(engine: u32) {
-    line::named(b"-- sheet D, engine", engine);
-    play(fresh(), engine, b"o.3 s02 c11 c10 S02 h.. C10 b.. o.3 ");
-    play(started(), engine, b"c00 s00 ");
+fn sheet_d(rt: &impl Print, engine: u32) -> io::Result<()> {
+    line::named(rt, b"-- sheet D, engine", engine)?;
+    play(rt, fresh(), engine, b"o.3 s02 c11 c10 S02 h.. C10 b.. o.3 ")?;
+    play(rt, started(), engine, b"c00 s00 ")
 }
 
 // A strike and its withdrawal, 31 times.
@@ -35,27 +36,28 @@ fn sixty_two() -> Session {
     s
 }
 
-fn events() {
-    line::heading(b"-- 10 and 11: in force or not");
-    play(started(), 1, b"S02 s02 s02 C02 S01 c02 c01 c01 c02 ");
-    line::heading(b"-- 13: back");
-    play(started(), 1, b"b.. s02 S02 b.. b.. b.. ");
-    line::heading(b"-- coil-on, then back");
-    play(started(), 1, b"s02 n.. b.. s02 h.. S02 ");
-    line::heading(b"-- 12: 62 events, and more");
+fn events(rt: &impl Print) -> io::Result<()> {
+    line::heading(rt, b"-- 10 and 11: in force or not")?;
+    play(rt, started(), 1, b"S02 s02 s02 C02 S01 c02 c01 c01 c02 ")?;
+    line::heading(rt, b"-- 13: back")?;
+    play(rt, started(), 1, b"b.. s02 S02 b.. b.. b.. ")?;
+    line::heading(rt, b"-- coil-on, then back")?;
+    play(rt, started(), 1, b"s02 n.. b.. s02 h.. S02 ")?;
+    line::heading(rt, b"-- 12: 62 events, and more")?;
     play(
+        rt,
         sixty_two(),
         1,
         b"s02 S02 s02 S02 c00 h.. b.. b.. c10 c00 c01 c01 n.. ",
-    );
+    )
 }
 
-fn main() {
-    sheet_d(1);
-    sheet_d(2);
-    sheet_d(3);
-    events();
-    refused::cases();
-    selected::cases();
-    forged::cases();
+fn main(rt: HostRuntime) -> io::Result<()> {
+    sheet_d(&rt, 1)?;
+    sheet_d(&rt, 2)?;
+    sheet_d(&rt, 3)?;
+    events(&rt)?;
+    refused::cases(&rt)?;
+    selected::cases(&rt)?;
+    forged::cases(&rt)
 }

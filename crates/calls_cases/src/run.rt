@@ -4,6 +4,7 @@ use answering::answer::answer;
 use ledger::{Call, Event};
 use limits::{MEMORY_WORDS, OFFERS_WORDS, ROWS_WORDS};
 use session::{Outcome, Session, fresh};
+use std::io;
 
 // What each word of the offers list and of the work spaces is before a call.
 pub const OFFERS_BEFORE: u32 = 9;
@@ -53,16 +54,30 @@ fn roomy(
 }
 
 // A call on any sheet, with any engine and order, and the end of its line. The session after it.
-pub fn on_sheet(what: Call, s: Session, sheet: &[u8], engine: u32, order: &[u8]) -> Session {
+pub fn on_sheet(
+    rt: &impl Print,
+    what: Call,
+    s: Session,
+    sheet: &[u8],
+    engine: u32,
+    order: &[u8],
+) -> io::Result<Session> {
     let mut offers = [OFFERS_BEFORE; OFFERS_WORDS];
     let out = roomy(what, s, sheet, engine, order, &mut offers);
-    line::answered(out.number, &offers, out.session);
-    out.session
+    line::answered(rt, out.number, &offers, out.session)?;
+    Ok(out.session)
 }
 
 // The same on sheet D.
-pub fn on_d(what: Call, s: Session, engine: u32, order: &[u8]) -> Session {
+pub fn on_d(
+    rt: &impl Print,
+    what: Call,
+    s: Session,
+    engine: u32,
+    order: &[u8],
+) -> io::Result<Session> {
     on_sheet(
+        rt,
         what,
         s,
         b"\x02\x03\x64\xC8\x01\xAC\x02\x03\x64\xC8\x01\xAC\x02\x18\x01\x00\x01\x01\x64",
@@ -90,11 +105,11 @@ pub fn quiet(what: Call, s: Session) -> Session {
 }
 
 // With an offers list of 30 words: how many change.
-pub fn long_list(name: &[u8], what: Call) {
+pub fn long_list(rt: &impl Print, name: &[u8], what: Call) -> io::Result<()> {
     let mut offers = [OFFERS_BEFORE; 30];
     let out = call_d(what, started(), &mut offers);
-    line::text(name);
-    line::number(out.number);
-    line::space(&offers, OFFERS_BEFORE);
-    line::text(b"\n");
+    line::text(rt, name)?;
+    line::number(rt, out.number)?;
+    line::space(rt, &offers, OFFERS_BEFORE)?;
+    line::text(rt, b"\n")
 }

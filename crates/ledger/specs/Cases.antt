@@ -101,7 +101,8 @@ pub ends_of_limits : (number (lent 24 13248 13824) Show (opened 3) ≡ 0) × (nu
 unfolding past_of wiped_out offers stays is_selected passes_over none_empty neighbourhood fields_within linked list_triples widen all_fields
     closing supported supported_by partner largest sweeps sweep some_empty empty cut same count only count_bits count_in some_bit some_in
     keep_bits keep_in mask_of bit has pad some_below all_below tabulate occurrences number first causes judged malformed no_engine is_order
-    space_short no_selection reversible all_on_sheet on_sheet in_force same_decision without change_by backed step other_chosen starts start_set
+    space_short no_selection reversible all_on_sheet on_sheet in_force same_decision without change_by backed step other_chosen starts
+    start_set
     offers_of wiped outline_of refusal_from numbers items number_at groups pick advance field_start rule_start sheet_problem runs pairs
 ends_of_limits = (refl, refl, refl, refl, refl, refl, refl, refl)
 
@@ -138,7 +139,8 @@ pub order_of_causes :
 unfolding past_of wiped_out offers stays is_selected passes_over none_empty neighbourhood fields_within linked list_triples widen all_fields
     closing supported supported_by partner largest sweeps sweep some_empty empty cut same count only count_bits count_in some_bit some_in
     keep_bits keep_in mask_of bit has pad some_below all_below tabulate occurrences number first causes judged malformed no_engine is_order
-    space_short no_selection reversible all_on_sheet on_sheet in_force same_decision without change_by backed step other_chosen starts start_set
+    space_short no_selection reversible all_on_sheet on_sheet in_force same_decision without change_by backed step other_chosen starts
+    start_set
     offers_of wiped outline_of refusal_from numbers items number_at groups pick advance field_start rule_start sheet_problem runs pairs
 order_of_causes = (
   refl,

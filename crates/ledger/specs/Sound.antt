@@ -93,7 +93,8 @@ module _ (o : Outline) where
   applied-revertible neither ds n = sym n
 
   -- a change that can be reversed, reversed
-  on-reverted : (k : Change) (ds : List Decision) → revertible o k ds ≡ true → all_on_sheet o ds ≡ true → all_on_sheet o (reverted k ds) ≡ true
+  on-reverted : (k : Change) (ds : List Decision) → revertible o k ds ≡ true → all_on_sheet o ds ≡ true
+      → all_on_sheet o (reverted k ds) ≡ true
   on-reverted (adds d) ds r a = on-without d ds a
   on-reverted (withdraws d) ds r a = on-with d ds (and_l _ _ r) a
   on-reverted neither ds r a = a

@@ -19,7 +19,8 @@ use Rattle.consistency.specs.Neighbourhood.{neighbourhood}
 use Rattle.sheet.specs.Sources.{Accepted, numbers, of_bytes}
 use Rattle.accepted.specs.declared.outline.Outline.{Outline}
 use Rattle.accepted.specs.Lists.{get_d_tabulate}
-use Rattle.accepted.specs.Parts.{fields_of, count_of, reach_of, rules_of, first_of, second_of, rule_allows, triples_of, triple_first, triple_second}
+use Rattle.accepted.specs.Parts.{fields_of, count_of, reach_of, rules_of, first_of, second_of, rule_allows, triples_of, triple_first}
+use Rattle.accepted.specs.Parts.{triple_second}
 use Rattle.accepted.specs.Parts.{triple_third, triple_allows}
 use Rattle.accepted.specs.Facts.{facts}
 use Rattle.accepted.specs.Outline.{outline_of, full-has}
@@ -91,7 +92,8 @@ module _ (o : Outline) (ds : List Decision) (f : ℕ) where
 pub record Obeys (xs : List ℕ) (ds : List Decision) (a : ℕ → ℕ) : Type 0 where
   pub on : (f : ℕ) → f < fields_of xs → a f < count_of xs f
   pub allowed : (r : ℕ) → r < rules_of xs → rule_allows xs r (a (first_of xs r)) (a (second_of xs r)) ≡ true
-  pub even : (t : ℕ) → t < triples_of xs → triple_allows xs t (a (triple_first xs t)) (a (triple_second xs t)) (a (triple_third xs t)) ≡ true
+  pub even : (t : ℕ) → t < triples_of xs → triple_allows xs t (a (triple_first xs t)) (a (triple_second xs t)) (a (triple_third xs t))
+      ≡ true
   pub unstruck : (f : ℕ) → f < fields_of xs → in_force ds (strike f (a f)) ≡ false
   pub chosen : (f u : ℕ) → f < fields_of xs → in_force ds (choice f u) ≡ true → u ≡ a f
 

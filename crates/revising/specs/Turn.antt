@@ -5,7 +5,7 @@ use Rattle.std.proofs.lemmas.Bool.{not-true}
 use Rattle.limits.specs.Limits.{most_fields, counter_words, list_places}
 use Rattle.masks.specs.Tests.{never, not_so, bool_cases}
 use Rattle.masks.specs.Bits.{bit, bit_of-zero, Within}
-use Rattle.masks.specs.Sets.{has, has-mask, ◌⊆◌, count}
+use Rattle.masks.specs.Sets.{has-mask, ◌⊆◌, count}
 use Rattle.masks.specs.Settings.{empty}
 use Rattle.removal_list.specs.Count.{Small}
 use Rattle.removal_list.specs.Moved.{Moved, moved_then}

@@ -15,7 +15,8 @@ use Rattle.masks.specs.Words.{bit-and-not}
 use Rattle.masks.specs.Sets.{has}
 use Rattle.accepted.specs.declared.outline.Outline.{Outline}
 use Rattle.ledger.specs.declared.Event.{Event}
-use Rattle.ledger.specs.Ledger.{Decision, choice, strike, Change, adds, withdraws, neither, change_of, same_decision, in_force, with, without}
+use Rattle.ledger.specs.Ledger.{Decision, choice, strike, Change, adds, withdraws, neither, change_of, same_decision, in_force, with}
+use Rattle.ledger.specs.Ledger.{without}
 use Rattle.ledger.specs.Ledger.{applied, reverted, on_sheet, all_on_sheet, revertible, reversible, no_selection, malformed}
 use Rattle.ledger.specs.Kinds.{change_any}
 use Rattle.ledger.specs.Laws.{in_force-with, in_force-without, all_on_at, all_on_by, Alike, alike-reversible}
@@ -172,10 +173,12 @@ module _ (o : Outline) (start : Decisions) (es : List Event) (count : ℕ) where
     e = get_or es (k - 1) no_event
 
     latest : (b : Bool) → revertible o (change_of e) (decisions_of d) ≡ b
-        → reversible o (past es count) (decisions_of start) ≡ (b && reversible o (past es (k - 1)) (reverted (change_of e) (decisions_of d)))
+        → reversible o (past es count) (decisions_of start)
+        ≡ (b && reversible o (past es (k - 1)) (reverted (change_of e) (decisions_of d)))
     unfolding reversible
     latest b q =
-        p.rest ∙ rw (past-latest es k h) (ap (λ (t : Bool). t && reversible o (past es (k - 1)) (reverted (change_of e) (decisions_of d))) q)
+        p.rest ∙ rw (past-latest es k h)
+        (ap (λ (t : Bool). t && reversible o (past es (k - 1)) (reverted (change_of e) (decisions_of d))) q)
 
     module _ (can : Bool) (r : CanRevert o d e can) where
       pub reversing_stuck : can ≡ false → false ≡ reversible o (past es count) (decisions_of start)

@@ -132,7 +132,8 @@ start-padded xs a ds =
     (λ f h. bit_ext _ 0 (λ v. bit-keep_bits (settings o f) (starts o ds f) v
     ∙ ap (λ (m : ℕ). bit m v && starts o ds f v) (full-past xs f h) ∙ rw (bit_of-zero v))) ∙ same
   where
-    same : pad (most_fields - fields_of xs) (tabulate (fields_of xs) (λ f. keep_bits (settings (outline_of xs) f) (starts (outline_of xs) ds f)))
+    same : pad (most_fields - fields_of xs)
+        (tabulate (fields_of xs) (λ f. keep_bits (settings (outline_of xs) f) (starts (outline_of xs) ds f)))
         ≡ pad (most_fields - fields_of xs)
         (tabulate (outline_of xs).fields (λ f. keep_bits (settings (outline_of xs) f) (starts (outline_of xs) ds f)))
     same = unfold outline_of in refl

@@ -8,6 +8,7 @@ use limits::{
 };
 use sheet::reading::read;
 use sheet::writing::write;
+use std::io;
 
 // Puts x at place k of the numbers; the place after it.
 fn push(numbers: &mut [u32], k: usize, x: u32) -> usize
@@ -121,7 +122,7 @@ fn push_triples(numbers: &mut [u32], start: usize) -> usize
 }
 
 // The largest sheet, written, read and written again.
-pub fn largest_case() {
+pub fn largest_case(rt: &impl Print) -> io::Result<()> {
     let mut numbers = [0u32; MOST_NUMBERS];
     let fields = push_fields(&mut numbers, 0);
     let reach = push(&mut numbers, fields, WHOLE_REACH);
@@ -129,16 +130,17 @@ pub fn largest_case() {
     push_triples(&mut numbers, rules);
     let mut sheet = [0u8; MOST_BYTES];
     let written = write(&numbers, &mut sheet);
-    line(b"largest, written", written.number, written.length);
+    line(rt, b"largest, written", written.number, written.length)?;
     let mut back = [0u32; MOST_NUMBERS];
     let found = read(&sheet, &mut back);
-    line(b"largest, read", found.number, found.length);
+    line(rt, b"largest, read", found.number, found.length)?;
     let mut again = [0u8; MOST_BYTES];
     let rewritten = write(&back, &mut again);
     line(
+        rt,
         b"largest, written again",
         rewritten.number,
         rewritten.length,
-    );
-    line(b"the same bytes", check::same(&sheet, &again) as u32, 0);
+    )?;
+    line(rt, b"the same bytes", (sheet == again) as u32, 0)
 }

@@ -23,13 +23,15 @@ use Rattle.sheet.specs.Sources.{refusal, numbers, of_bytes, bytes_of, Gives, pro
 use Rattle.accepted.specs.Theorems.{exact, read-written_in, read-refused, written-read_in}
 use Rattle.accepted.specs.FirstFault.{FirstFaultRetired, refused-retired, retired-refused}
 use Rattle.accepted.specs.Produces.{front_of, refused-by, refuses}
-use Rattle.belaykeel.proofs.belaykeel_read
+use Rattle.belaykeel.specs.contracts.belaykeel_read
+use Rattle.belaykeel.proofs.belaykeel_read as read-proved
 use Rattle.belaykeel.proofs.belaykeel_read.Kinds as read-kinds
 use Rattle.belaykeel.proofs.belaykeel_read.Reads as read-reads
-use Rattle.belaykeel.proofs.belaykeel_write
+use Rattle.belaykeel.specs.contracts.belaykeel_write
+use Rattle.belaykeel.proofs.belaykeel_write as write-proved
 use Rattle.belaykeel.proofs.belaykeel_write.Kinds as write-kinds
 use Rattle.belaykeel.proofs.belaykeel_write.Reads as write-reads
-use Rattle.theorem.specs.EveryCall.{lends}
+use Rattle.theorem.specs.EveryCall.{lends, lends_mut}
 use Rattle.theorem.proofs.Outer.{Public}
 
 -- the source, the output before the call, its answer, and the output after it
@@ -51,22 +53,22 @@ write-answered (by-write κs a r e h) = h
 
 pub every-read : Lfts 2 → (sheet before : List ℕ) (r : Answer) (after : List ℕ) → Gives (reading sheet before) r after
     → ReadCalled sheet before r after
-every-read κs sheet before r after h = by_read κs (lends sheet, (lends before, tt)) r (lends sheet, (lends after, tt)) h
+every-read κs sheet before r after h = by_read κs (lends sheet, (lends_mut before, tt)) r (lends sheet, (lends_mut after, tt)) h
 
 pub every-write : Lfts 2 → (numbers before : List ℕ) (r : Answer) (after : List ℕ) → Gives (writing numbers before) r after
     → WriteCalled numbers before r after
-every-write κs numbers before r after h = by-write κs (lends numbers, (lends before, tt)) r (lends numbers, (lends after, tt)) h
+every-write κs numbers before r after h = by-write κs (lends numbers, (lends_mut before, tt)) r (lends numbers, (lends_mut after, tt)) h
 
-pub read_public : Public belaykeel_read.ended (λ M. belaykeel_read.clauses {M = M}) belaykeel_read.Symbol.routine
+pub read_public : Public belaykeel_read.ended (λ M 𝓤. belaykeel_read.clauses) read-proved.Symbol.code read-proved.Symbol.name
 read_public = record {
   free = λ κs a w. (tt, refl);
-  kept = λ w. belaykeel_read.Met.met w.𝓤 w.𝓛 w.𝓜 w.𝓡;
+  kept = λ w. read-proved.Met.met w.𝓤 w.𝓛 w.𝓜 w.𝓡;
 }
 
-pub write_public : Public belaykeel_write.ended (λ M. belaykeel_write.clauses {M = M}) belaykeel_write.Symbol.routine
+pub write_public : Public belaykeel_write.ended (λ M 𝓤. belaykeel_write.clauses) write-proved.Symbol.code write-proved.Symbol.name
 write_public = record {
   free = λ κs a w. (tt, refl);
-  kept = λ w. belaykeel_write.Met.met w.𝓤 w.𝓛 w.𝓜 w.𝓡;
+  kept = λ w. write-proved.Met.met w.𝓤 w.𝓛 w.𝓜 w.𝓡;
 }
 
 -- ---- the round trips, for whatever room each call is lent: where it is too short, 6 and nothing written

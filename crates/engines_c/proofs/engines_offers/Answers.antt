@@ -10,9 +10,9 @@ slice_bounds-build-end-2 c = sym (length-take-le _ _ c.requires.ends)
 pub run_rules-requires : goal.run_rules-requires
 run_rules-requires c =
     let p = c.requires in
-    (asks-on _ _ _ _ _ _ _ _ p c.build-net.auto.1.0, c.build-net.ensures, c.if-net-eq0.true)
+    (asks-on _ _ _ _ _ _ _ _ p c.build-net.auto.rows, c.build-net.ensures, c.if-net-eq0.true)
 
 pub run_triples-requires : goal.run_triples-requires
 run_triples-requires c =
     let p = c.requires in
-    (asks-on _ _ _ _ _ _ _ _ p c.build-net.auto.1.0, c.build-net.ensures)
+    (asks-on _ _ _ _ _ _ _ _ p c.build-net.auto.rows, c.build-net.ensures)

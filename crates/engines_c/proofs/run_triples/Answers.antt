@@ -21,8 +21,11 @@ pub run-requires : goal.run-requires
 run-requires c =
     let p = c.requires in
     let a = p.0 in
-    rw (c.forward-forward.ensures, c.turned-turned.ensures)
-    (run-asks _ _ _ _ _ p.1 c.fill_triples.ensures _ _ _ a.visits a.selected-fields a.masks a.on, a.room)
+    record {
+      run_asks = rw (c.forward-forward.ensures, c.turned-turned.ensures)
+          (run-asks _ _ _ _ _ p.1 c.fill_triples.ensures _ _ _ a.visits a.selected-fields a.masks a.on);
+      memory_words_in_bounds = a.room;
+    }
 
 pub returns : goal.returns
 returns c =

@@ -1,5 +1,5 @@
 -- A numeral of more digits than one is that of the tens, and then the digit of the ones.
-use Rattle.std.specs.Prelude.{◌≡◌, List, [], ◌∷◌, ℕ, ◌+◌, ◌/◌, ◌%◌, ◌≤◌, length}
+use Rattle.std.specs.Prelude.{◌≡◌, [], ◌∷◌, ℕ, ◌+◌, ◌/◌, ◌%◌, ◌≤◌, length}
 use Rattle.std.proofs.Common.{sym, ap, ◌∙◌, arith, length-append}
 use Rattle.printing.specs.Text.{decimal}
 use Rattle.printing.specs.Puts.{puts_then, puts_size, puts_as}

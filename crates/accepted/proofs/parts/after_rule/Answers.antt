@@ -1,8 +1,7 @@
 use mathlib.Core.Path.{◌≡◌, sym, ap, ◌∙◌}
-use Prim.Native.Nat.{ℕ, ◌+◌, ◌<◌, ◌≤◌}
+use Prim.Native.Nat.{ℕ, ◌+◌}
 use mathlib.Core.List.{List}
 use native.Mathlib.Omega.{arith}
-use lib.ListN.{length}
 use Rattle.accepted.specs.Parts.{RuleAt, kind_of, count_of, first_of, rule_start, after-masks, after-number}
 use Rattle.accepted.specs.Facts.{facts, rule-ends-at, rule-after-at}
 use Rattle.accepted.proofs.parts.after_rule.Goals as goal

@@ -1,7 +1,6 @@
 use mathlib.Core.Path.{ap, ◌∙◌, sym}
-use Prim.Native.Nat.{ℕ, ◌+◌, ◌≤◌}
+use Prim.Native.Nat.{ℕ, ◌+◌}
 use native.Mathlib.Omega.{arith}
-use lib.ListN.{length}
 use Rattle.accepted.specs.Parts.{rule-first}
 use Rattle.accepted.specs.Facts.{facts}
 use Rattle.accepted.proofs.parts.rules_start.Goals as goal

@@ -1,5 +1,4 @@
 use mathlib.Core.Path.{◌∙◌}
-use Prim.Native.Nat.{◌<◌}
 use native.Mathlib.Omega.{arith}
 use Rattle.limits.specs.Limits.{most_settings}
 use Rattle.masks.specs.Bits.{bit_bound}

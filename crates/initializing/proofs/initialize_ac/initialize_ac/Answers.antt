@@ -1,8 +1,6 @@
 use mathlib.Core.Path.{◌≡◌, ◌∙◌}
-use Prim.Native.Nat.{◌<◌}
 use native.Mathlib.Omega.{arith}
 use borrow.Author.Rules.{rules}
-use Rattle.limits.specs.Limits.{most_fields}
 use Rattle.initializing.specs.InitializeTurn.{initialize_start, initialize_end, record-asks, count-asks}
 use Rattle.initializing.specs.InitializeTurn.{initialize_drop-asks, initialized_none, initialized_next}
 use Rattle.initializing.proofs.initialize_ac.initialize_ac.Goals as goal

@@ -4,7 +4,6 @@ use Prim.Native.Nat.{◌≤◌}
 use native.Mathlib.Nat.{eq-or-lt_of_le}
 use native.Mathlib.Omega.{arith}
 use borrow.Author.Rules.{rules}
-use Rattle.ledger.specs.Occurrences.{occurrences}
 use Rattle.ledger.specs.Orders.{order_wrong_length, order_wrong_field, order-right}
 use Rattle.judging.proofs.order.is_order.Goals as goal
 

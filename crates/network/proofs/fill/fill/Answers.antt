@@ -1,8 +1,5 @@
 use mathlib.Core.Path.{◌≡◌}
-use Prim.Native.Nat.{◌<◌}
 use borrow.Author.Rules.{rules}
-use lib.ListN.{length}
-use Rattle.limits.specs.Limits.{most_fields}
 use Rattle.accepted.specs.Parts.{rules_of}
 use Rattle.network.specs.Filling.{filled_start, rule-at, joined-room, filled_next}
 use Rattle.network.proofs.fill.fill.Goals as goal

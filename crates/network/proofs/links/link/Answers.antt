@@ -1,10 +1,7 @@
 use mathlib.Core.Path.{◌≡◌, ap₂}
-use Prim.Native.Nat.{◌<◌}
 use native.Mathlib.Omega.{arith}
 use borrow.Author.Rules.{rules}
 use lib.Bits.{bit_or}
-use Rattle.limits.specs.Limits.{most_fields}
-use Rattle.accepted.specs.Parts.{TripleAt}
 use Rattle.network.specs.TripleLoop.{next_start, start-room, next-at, next-room, next-after, triple-fields}
 use Rattle.network.specs.Linking.{links-start, links-next}
 use Rattle.network.proofs.links.link.Goals as goal

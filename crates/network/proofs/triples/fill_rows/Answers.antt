@@ -1,9 +1,6 @@
 use mathlib.Core.Path.{◌≡◌}
-use Prim.Native.Nat.{◌≤◌, ◌<◌}
 use native.Mathlib.Omega.{arith}
 use borrow.Author.Rules.{rules}
-use Rattle.limits.specs.Limits.{most_settings}
-use Rattle.accepted.specs.Parts.{count_of}
 use Rattle.network.specs.Drafts.{triple-rows-start, triple-rows-next, three-le, counts-low, at_first, at_second}
 use Rattle.network.specs.Drafts.{at-third}
 use Rattle.network.proofs.triples.fill_rows.Goals as goal

@@ -1,8 +1,6 @@
 -- `fill_triple` writes the three fields and then the words.
 use mathlib.Core.Path.{◌∙◌}
-use Prim.Native.Nat.{◌<◌}
 use native.Mathlib.Omega.{arith}
-use Rattle.limits.specs.Limits.{most_fields}
 use Rattle.network.specs.TripleLoop.{triple-fields}
 use Rattle.network.specs.Drafts.{counts-low}
 use Rattle.network.specs.Blocks.{fields-sized, fields-zeros, second-room, third-room, block-stored}

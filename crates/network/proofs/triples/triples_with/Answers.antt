@@ -1,9 +1,6 @@
 use mathlib.Core.Path.{◌≡◌}
-use Prim.Native.Nat.{◌<◌}
 use native.Mathlib.Omega.{arith}
 use borrow.Author.Rules.{rules}
-use Rattle.limits.specs.Limits.{most_fields}
-use Rattle.accepted.specs.Parts.{TripleAt}
 use Rattle.network.specs.TripleLoop.{next_start, start-room, next-at, next-room, next-after, triple-low}
 use Rattle.network.specs.TripleLoop.{triple-fields}
 use Rattle.network.specs.TriplesFilled.{have-start, have-next}

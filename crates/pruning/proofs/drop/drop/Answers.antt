@@ -1,5 +1,4 @@
 use mathlib.Core.Path.{refl}
-use Prim.Native.Nat.{◌<◌}
 use Rattle.limits.specs.Limits.{most_fields}
 use Rattle.masks.specs.Bits.{bit_bound}
 use Rattle.masks.specs.Words.{clear-lt}

@@ -1,8 +1,5 @@
 use mathlib.Core.Path.{◌≡◌}
-use Prim.Native.Nat.{◌/◌, ◌<◌}
 use native.Mathlib.Omega.{arith}
-use lib.ListN.{get_or}
-use Rattle.limits.specs.Limits.{most_fields, most_settings, list_places}
 use Rattle.pruning.specs.Prune.{pruning_start, pruning_end}
 use Rattle.pruning.specs.PruneTurn.{head_asks, drop-asks, pruned_none, pruned_next, pruned_same}
 use Rattle.pruning.proofs.prune_ac.prune_ac.Goals as goal

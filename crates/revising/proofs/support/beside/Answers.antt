@@ -1,5 +1,4 @@
 use mathlib.Core.Path.{refl}
-use Prim.Native.Nat.{◌<◌}
 use borrow.Author.Rules.{rules}
 use Rattle.limits.specs.Limits.{most_settings}
 use Rattle.masks.specs.Bits.{bit_bound}

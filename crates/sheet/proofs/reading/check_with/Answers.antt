@@ -1,10 +1,9 @@
 -- A turn judges one item of the bytes; `Going` says what is judged so far and what is to come.
-use Rattle.std.specs.Prelude.{◌≡◌, refl, List, [], ◌∷◌, ℕ, ◌<◌, ◌≤◌, length}
+use Rattle.std.specs.Prelude.{List, [], ◌∷◌, ℕ}
 use Rattle.std.proofs.Common.{sym, ap, ap₂, ◌∙◌, arith}
 use Rattle.groups.specs.Groups.{number-next}
-use Rattle.grammar.specs.Grammar.{start}
 use Rattle.grammar.specs.declared.grammar.State.{State}
-use Rattle.sheet.specs.Sources.{Item, meets, refusal_from, numbers, items_from, of_bytes, answered}
+use Rattle.sheet.specs.Sources.{Item, meets, refusal_from, numbers, items_from, answered}
 use Rattle.sheet.specs.Items.{from_end, from-num, from_cut, from-ill, from_some}
 use Rattle.sheet.specs.Progress.{going_on, going_end, going-refused, going-stays, refusal_from-cut, refusal_from-ill}
 use Rattle.sheet.specs.Progress.{numbers-num, numbers-none, advance-length}

@@ -2,7 +2,7 @@
 use Rattle.std.specs.Prelude.{◌≡◌, List, ℕ, ◌+◌, ◌<◌, length, set}
 use Rattle.std.proofs.Common.{sym, ap, ◌∙◌, arith}
 use Rattle.groups.specs.Groups.{number_at, number-next}
-use Rattle.groups.specs.Storing.{Storing, storing_none, storing_one, storing_done}
+use Rattle.groups.specs.Storing.{Storing, storing_one, storing_done}
 use Rattle.groups.specs.declared.groups.Number.TheVariants.{Value}
 use Rattle.sheet.specs.Sources.{numbers, items_from}
 use Rattle.sheet.specs.Items.{from_end, from-num, from_cut, from-ill}

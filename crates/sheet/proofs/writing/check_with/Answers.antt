@@ -1,9 +1,8 @@
 -- A turn judges one number of the list, the retired kind before the grammar; `Passing` says what is judged so far and what is to come.
-use Rattle.std.specs.Prelude.{refl, List, ℕ}
+use Rattle.std.specs.Prelude.{refl, ℕ}
 use Rattle.std.proofs.Common.{sym, ap, ◌∙◌, arith}
-use Rattle.grammar.specs.Grammar.{start}
 use Rattle.grammar.specs.declared.grammar.State.TheVariants.{Complete, OutOfRange, OutOfOrder}
-use Rattle.sheet.specs.Sources.{refusal_from, of_numbers, retired_from, answered}
+use Rattle.sheet.specs.Sources.{answered}
 use Rattle.sheet.specs.Progress.{advance-length}
 use Rattle.sheet.specs.Retired.{passing-on, passing-retired, passing-stays, passing_end, retired-stays}
 use Rattle.sheet.proofs.writing.check_with.Goals as goal

@@ -1,7 +1,7 @@
-use Rattle.std.specs.Prelude.{ℕ, ◌+◌, length, drop, get_or}
+use Rattle.std.specs.Prelude.{◌+◌, length, drop, get_or}
 use Rattle.std.proofs.Common.{ap, arith, length-append}
 use Rattle.groups.specs.Groups.{encode}
-use Rattle.groups.specs.Storing.{storing_none, storing_part, storing_done}
+use Rattle.groups.specs.Storing.{storing_part, storing_done}
 use Rattle.sheet.specs.Sources.{bytes_of}
 use Rattle.sheet.specs.Progress.{bytes_next, bytes_end}
 use Rattle.sheet.proofs.writing.put_bytes.Goals as goal
