@@ -13,8 +13,9 @@ use Rattle.accepted.specs.Outline.{outline_of}
 use Rattle.ledger.specs.declared.Call.{Call}
 use Rattle.ledger.specs.Ledger.{Given, Cause, step, wiped, space_short, no_selection, number, first, judged, is_order}
 use Rattle.ledger.specs.Causes.{first_end, first-applies, first_next}
-use Rattle.ledger.specs.Laws.{SameLedger, alike-wiped, alike-offers}
-use Rattle.ledger.specs.Judging.{or_left, or_right, clear, clear-order, number_short, number-sheet, number-judged, number-offers}
+use Rattle.ledger.specs.Laws.{SameLedger}
+use Rattle.ledger.proofs.Laws.{alike-wiped, alike-offers}
+use Rattle.ledger.proofs.Judging.{or_left, or_right, clear, clear-order, number_short, number-sheet, number-judged, number-offers}
 use Rattle.session.specs.declared.Session.{Session}
 use Rattle.session.specs.View.{view, Sized}
 use Rattle.session.specs.Steps.{stepped, StepAsks}

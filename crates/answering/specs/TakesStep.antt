@@ -1,5 +1,5 @@
 -- A call that no cause before 14 refuses: its step can be taken, and shows the ledger's step. Assumes nothing.
-use Rattle.std.specs.Prelude.{◌≡◌, ◌&&◌, List, ℕ, ◌-◌, ◌≤◌, ◌<◌, ltb}
+use Rattle.std.specs.Prelude.{◌≡◌, ◌&&◌, List, ℕ, ◌≤◌, ◌<◌, ltb}
 use Rattle.std.proofs.Math.Path.{refl}
 use Rattle.std.proofs.Common.{sym, ◌∙◌}
 use Rattle.std.proofs.Math.Bool.{true, false}
@@ -20,7 +20,7 @@ use Rattle.ledger.specs.Ledger.{Decision, change_of, step}
 use Rattle.ledger.specs.Ledger.{on_sheet, revertible, reversible, no_selection, malformed, off_sheet}
 use Rattle.ledger.specs.Kinds.{change_any}
 use Rattle.ledger.specs.Laws.{SameLedger}
-use Rattle.ledger.specs.Judging.{Clear, not_back, well_formed}
+use Rattle.ledger.proofs.Judging.{Clear, not_back, well_formed}
 use Rattle.session.specs.declared.Session.{Session}
 use Rattle.session.specs.View.{decisions_of, length-past, events-counted, past-latest, view, Sized}
 use Rattle.session.specs.Steps.{stepped, latest, RecordAsks, UndoAsks, StepAsks, view-step}

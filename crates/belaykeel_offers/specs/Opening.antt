@@ -12,7 +12,7 @@ use Rattle.sheet.specs.declared.answer.Answer.{Answer as Read}
 use Rattle.ledger.specs.declared.Call.{Call}
 use Rattle.ledger.specs.declared.Call.TheVariants.{Open}
 use Rattle.ledger.specs.Ledger.{Given, number, space_short}
-use Rattle.ledger.specs.Judging.{number-sheet}
+use Rattle.ledger.proofs.Judging.{number-sheet}
 use Rattle.session.specs.declared.Session.{Session}
 use Rattle.session.specs.View.{view}
 use Rattle.session.specs.Steps.{fresh_session}

@@ -5,9 +5,6 @@ pub mod Ledger
 pub mod Cases
 pub mod Kinds
 pub mod Causes
-pub mod Judging
 pub mod Laws
 pub mod Orders
-pub mod Sound
-pub mod Selection
 pub mod Theorems

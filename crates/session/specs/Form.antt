@@ -19,7 +19,8 @@ use Rattle.ledger.specs.Ledger.{Decision, choice, strike, Change, adds, withdraw
 use Rattle.ledger.specs.Ledger.{without}
 use Rattle.ledger.specs.Ledger.{applied, reverted, on_sheet, all_on_sheet, revertible, reversible, no_selection, malformed}
 use Rattle.ledger.specs.Kinds.{change_any}
-use Rattle.ledger.specs.Laws.{in_force-with, in_force-without, all_on_at, all_on_by, Alike, alike-reversible}
+use Rattle.ledger.specs.Laws.{Alike}
+use Rattle.ledger.proofs.Laws.{in_force-with, in_force-without, all_on_at, all_on_by, alike-reversible}
 use Rattle.session.specs.declared.Session.{Session}
 use Rattle.session.specs.declared.decisions.Decisions.{Decisions}
 use Rattle.session.specs.Decisions.{held_in, gained, lost, applied_in, reverted_in, Found, Long, reverted-long, Low, LowChange}

@@ -14,7 +14,7 @@ use Rattle.masks.specs.Sets.{has}
 use Rattle.masks.specs.Pick.{pick}
 use Rattle.ledger.specs.declared.Event.{Event}
 use Rattle.ledger.specs.Ledger.{Decision, choice, strike, Ledger, same_decision, in_force}
-use Rattle.ledger.specs.Laws.{decision-at, decision-self}
+use Rattle.ledger.proofs.Laws.{decision-at, decision-self}
 use Rattle.session.specs.declared.Session.{Session}
 use Rattle.session.specs.declared.decisions.Decisions.{Decisions}
 use Rattle.session.specs.Decisions.{held_in, Long}

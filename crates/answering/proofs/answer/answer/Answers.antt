@@ -1,14 +1,12 @@
 use mathlib.Core.Path.{◌≡◌, refl, sym, ap, ◌∙◌}
-use mathlib.Core.Bool.{true, false}
 use mathlib.Core.List.{List}
 use Prim.Native.Nat.{ℕ}
-use lib.ListN.{length, length-map, take}
-use lib.Seq.{length-take-le}
+use lib.ListN.{length, take}
 use borrow.Author.Rules.{rules}
-use Rattle.sheet.specs.Sources.{refusal, numbers, of_bytes, Accepted}
+use Rattle.sheet.specs.Sources.{refusal, of_bytes, Accepted}
 use Rattle.accepted.specs.declared.outline.Outline.{Outline}
 use Rattle.accepted.specs.Accept.{bytes-accepted}
-use Rattle.accepted.specs.Outline.{outline_of, outline-few}
+use Rattle.accepted.specs.Outline.{outline-few}
 use Rattle.ledger.specs.Ledger.{no_selection, is_order}
 use Rattle.session.specs.View.{Sized}
 use Rattle.session.specs.Steps.{stepped}
@@ -64,9 +62,6 @@ returns-then-cause-ne0 c =
 pub slice_bounds-build-end : goal.slice_bounds-build-end
 slice_bounds-build-end c = c.take_in-taken.ensures.ends c.if-taken-ne0.false
 
-pub slice_bounds-build-end-2 : goal.slice_bounds-build-end-2
-slice_bounds-build-end-2 c = sym (length-take-le _ _ (c.take_in-taken.ensures.ends c.if-taken-ne0.false))
-
 pub build-net-requires : goal.build-net-requires
 build-net-requires c =
     let r = roomy _ _ _ (sym c.too_short.ensures ∙ c.if-too_short.false) in
@@ -109,9 +104,6 @@ settle_sheet-requires c =
       };
     }
 
-pub shape_of-memory-then-settle_sheet : goal.shape_of-memory-then-settle_sheet
-shape_of-memory-then-settle_sheet c = c.settle_sheet.auto.memory ∙ c.take_in-taken.auto.memory
-
 pub returns-then-settle_sheet : goal.returns-then-settle_sheet
 returns-then-settle_sheet c =
     let sized : Sized c.args.session = search rules in
@@ -120,9 +112,6 @@ returns-then-settle_sheet c =
     let none = sym (rw (t.outline z) at c.judge-cause.ensures) ∙ c.if-cause-ne0.false in
     answers-wiped _ _ sized _ _ _ _ (sym c.if-too_short.false ∙ c.too_short.ensures) (unrefused t z) none _ c.step-next.ensures _ _
     (rw (t.front z) at c.settle_sheet.ensures) c.if-settle_sheet.true
-
-pub shape_of-memory : goal.shape_of-memory
-shape_of-memory c = c.settle_sheet.auto.memory ∙ c.take_in-taken.auto.memory
 
 pub returns : goal.returns
 returns c =

@@ -1,10 +1,7 @@
 -- `remove` loses the setting, and closes again.
-use mathlib.Core.Path.{◌≡◌, sym, ◌∙◌}
-use mathlib.Core.Bool.{false, true≢false}
-use Prim.Native.Nat.{◌<◌}
+use mathlib.Core.Path.{sym, ◌∙◌}
+use mathlib.Core.Bool.{true≢false}
 use native.Mathlib.Omega.{arith}
-use Rattle.limits.specs.Limits.{most_fields, most_settings}
-use Rattle.masks.specs.Settings.{lose, empty}
 use Rattle.removal_list.specs.Moved.{moved_none}
 use Rattle.consistency.specs.Problem.{all_fields}
 use Rattle.network.specs.TripleTable.{problem_of}

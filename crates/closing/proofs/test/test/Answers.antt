@@ -1,7 +1,5 @@
 -- `test` cuts off the other settings of the field, and closes on the copy of the counts.
-use Prim.Native.Nat.{◌<◌}
 use native.Mathlib.Omega.{arith}
-use Rattle.limits.specs.Limits.{most_fields, most_settings}
 use Rattle.closing.specs.Asks.{place_bound}
 use Rattle.closing.specs.TestAsks.{own_below, cut-asks, cut_prune_asks, cut_else, cut-recover-asks, test-leaves}
 use Rattle.closing.proofs.test.test.Goals as goal

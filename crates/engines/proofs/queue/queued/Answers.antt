@@ -32,10 +32,6 @@ round-r-requires c =
       counted = i.3;
     }
 
-pub shape_of-memory-then-r : goal.shape_of-memory-then-r
-shape_of-memory-then-r c =
-    c.round-r.auto.memory ∙ c.loop-queue.invariant.2
-
 pub returns-then-r : goal.returns-then-r
 returns-then-r c =
     let begun = rw c.if-begin.false at c.begin.ensures.0 in
@@ -55,9 +51,6 @@ loop-queue-preserved c =
       c.round-r.auto.memory ∙ i.2,
       c.round-r.ensures.2 c.if-r.false,
     )
-
-pub shape_of-memory : goal.shape_of-memory
-shape_of-memory c = c.loop-queue.invariant.2
 
 pub returns : goal.returns
 returns c =

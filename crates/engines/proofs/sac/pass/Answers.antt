@@ -25,10 +25,6 @@ visit-r-requires c =
       counted = c.loop-q.invariant.4;
     }
 
-pub shape_of-memory-then-r : goal.shape_of-memory-then-r
-shape_of-memory-then-r c =
-    c.visit-r.auto.memory ∙ c.loop-q.invariant.3
-
 pub returns-then-r : goal.returns-then-r
 unfolding problem_of
 returns-then-r c =
@@ -60,9 +56,6 @@ loop-q-preserved c =
     let i = c.loop-q.invariant in
     let off = rw (c.has_bit.ensures, c.field_at-f.ensures.0) at c.if-has_bit.false in
     (search rules, passing_skip _ _ _ _ _ _ _ _ i.1 off, i.2, i.3, i.4)
-
-pub shape_of-memory : goal.shape_of-memory
-shape_of-memory c = c.loop-q.invariant.3
 
 pub returns : goal.returns
 unfolding problem_of

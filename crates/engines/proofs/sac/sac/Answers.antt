@@ -27,18 +27,10 @@ pass-r-requires c =
       counted = i.3;
     }
 
-pub shape_of-memory-then-r : goal.shape_of-memory-then-r
-shape_of-memory-then-r c =
-    c.pass-r.auto.memory ∙ c.loop-net.invariant.2
-
 pub returns-then-r : goal.returns-then-r
 returns-then-r c =
     let begun = rw c.if-begin.false at c.begin.ensures.0 in
     engine-none _ _ _ _ _ begun (kept-wiped _ _ _ c.loop-net.invariant.0.1 (c.pass-r.ensures.0.none c.if-r.true))
-
-pub shape_of-memory-then-r-eq0 : goal.shape_of-memory-then-r-eq0
-shape_of-memory-then-r-eq0 c =
-    c.pass-r.auto.memory ∙ c.loop-net.invariant.2
 
 pub returns-then-r-eq0 : goal.returns-then-r-eq0
 returns-then-r-eq0 c =

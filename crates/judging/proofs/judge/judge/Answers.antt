@@ -1,5 +1,5 @@
 use mathlib.Core.Path.{sym, ◌∙◌}
-use Rattle.ledger.specs.Judging.{judged-session, judged-engine, judged-place, judged-order, judged-step}
+use Rattle.ledger.proofs.Judging.{judged-session, judged-engine, judged-place, judged-order, judged-step}
 use Rattle.judging.proofs.judge.judge.Goals as goal
 
 pub returns-then-of_session-ne0 : goal.returns-then-of_session-ne0

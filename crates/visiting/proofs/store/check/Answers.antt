@@ -83,9 +83,6 @@ bounds-known-f c = (place_bound _ _ _ _ _ _ c.requires.live_asks.0 _ _ c.require
 pub bounds-known-f-then-remembers : goal.bounds-known-f-then-remembers
 bounds-known-f-then-remembers c = (place_bound _ _ _ _ _ _ c.requires.live_asks.0 _ _ c.requires.hood_asks.1).1
 
-pub shape_of-memory-then-remembers : goal.shape_of-memory-then-remembers
-shape_of-memory-then-remembers c = c.remember.ensures.sized
-
 pub returns-then-remembers : goal.returns-then-remembers
 returns-then-remembers c =
     let a = c.requires.live_asks in

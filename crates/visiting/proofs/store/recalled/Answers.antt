@@ -1,18 +1,8 @@
 -- `recalled` looks for the setting among the known ones, and then at the masks of its place, if the engine remembers.
 use mathlib.Core.Path.{refl, sym, ◌∙◌}
-use native.Mathlib.Omega.{arith}
 use Rattle.masks.specs.Tests.{never}
 use Rattle.masks.specs.Sets.{has}
 use Rattle.visiting.proofs.store.recalled.Goals as goal
-
-pub place-requires : goal.place-requires
-place-requires c = let p = c.requires in (omega arith, omega arith)
-
-pub intact-requires : goal.intact-requires
-intact-requires c =
-    let p = c.requires in
-    let e = c.place.ensures in
-    (omega arith, p.3)
 
 pub returns-then-has_bit : goal.returns-then-has_bit
 unfolding has

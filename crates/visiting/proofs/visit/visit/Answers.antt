@@ -1,10 +1,8 @@
 use mathlib.Core.Path.{◌≡◌, refl, sym, ap, ◌∙◌}
 use mathlib.Core.Bool.{true, true≢false}
-use Prim.Native.Nat.{◌<◌}
 use native.Mathlib.Omega.{arith}
 use lib.Bits.{and_le_l}
 use lib.ListN.{get_or}
-use Rattle.limits.specs.Limits.{most_fields}
 use Rattle.masks.specs.Words.{clear-lt}
 use Rattle.closing.specs.Asks.{asks-shrunk}
 use Rattle.visiting.specs.declared.store.CheckResult.{CheckResult}
@@ -18,18 +16,6 @@ other : (r : CheckResult) → (r ≡ Failed → ⊥) → passing r ≡ true
 other Recalled n = refl
 other Passed n = refl
 other Failed n = absurd (n refl)
-
-pub offset_bounds-m-f : goal.offset_bounds-m-f
-offset_bounds-m-f c =
-    let l = c.requires.f_lt_fields.0 in
-    let k = c.requires.live_asks.0.wired.few in
-    omega arith
-
-pub bounds-m-f : goal.bounds-m-f
-bounds-m-f c =
-    let l = c.requires.f_lt_fields.0 in
-    let k = c.requires.live_asks.0.wired.few in
-    omega arith
 
 pub loop-left-init : goal.loop-left-init
 loop-left-init c =
@@ -53,9 +39,6 @@ remove-r-requires c =
       counted = c.check-found.ensures.1;
     }
 
-pub shape_of-memory-then-r : goal.shape_of-memory-then-r
-shape_of-memory-then-r c = c.check-found.auto.memory ∙ c.loop-left.invariant.2
-
 pub returns-then-r : goal.returns-then-r
 returns-then-r c =
     let fails = sym c.check-found.ensures.0.passed ∙ ap passing c.in-Failed.is in (
@@ -63,18 +46,6 @@ returns-then-r c =
       (λ e. absurd (true≢false e)),
       (λ e. absurd (true≢false e)),
     )
-
-pub offset_bounds-m-f-in-Failed : goal.offset_bounds-m-f-in-Failed
-offset_bounds-m-f-in-Failed c =
-    let l = c.requires.f_lt_fields.0 in
-    let k = c.requires.live_asks.0.wired.few in
-    omega arith
-
-pub bounds-m-f-in-Failed : goal.bounds-m-f-in-Failed
-bounds-m-f-in-Failed c =
-    let l = c.requires.f_lt_fields.0 in
-    let k = c.requires.live_asks.0.wired.few in
-    omega arith
 
 pub loop-left-smaller-in-Failed : goal.loop-left-smaller-in-Failed
 loop-left-smaller-in-Failed c =
@@ -105,9 +76,6 @@ loop-left-preserved c =
       c.check-found.auto.memory ∙ c.loop-left.invariant.2,
       c.check-found.ensures.1,
     )
-
-pub shape_of-memory : goal.shape_of-memory
-shape_of-memory c = c.loop-left.invariant.2
 
 pub returns : goal.returns
 returns c =

@@ -28,8 +28,9 @@ use Rattle.ledger.specs.declared.Call.{Call}
 use Rattle.ledger.specs.declared.Call.TheVariants.{Open, Show, Decide, Back, CoilOn}
 use Rattle.ledger.specs.Ledger.{Decision, Ledger, backed, step, settings, starts, start_set, offers_of, Given, no_selection}
 use Rattle.ledger.specs.Ledger.{number, after}
-use Rattle.ledger.specs.Laws.{accepted-steps, refused-keeps, Alike, alike-start}
-use Rattle.ledger.specs.Judging.{or_left, or_right}
+use Rattle.ledger.specs.Laws.{Alike}
+use Rattle.ledger.proofs.Laws.{accepted-steps, refused-keeps, alike-start}
+use Rattle.ledger.proofs.Judging.{or_left, or_right}
 
 -- ---- which calls set the mask
 

@@ -17,9 +17,10 @@ use Rattle.ledger.specs.declared.Call.TheVariants.{Open, Show, Decide, Back, Coi
 use Rattle.ledger.specs.Ledger.{Decision, Change, adds, withdraws, neither, change_of, Ledger, same_decision, in_force, with, without}
 use Rattle.ledger.specs.Ledger.{applied, reverted, opened, backed, step, Given, on_sheet, all_on_sheet, revertible, reversible}
 use Rattle.ledger.specs.Ledger.{no_selection, malformed, off_sheet, added_again, withdrawn_unheld, number, after}
-use Rattle.ledger.specs.Laws.{accepted-steps, refused-keeps}
-use Rattle.ledger.specs.Laws.{decision-at, decision-self, in_force-with, in_force-without, all_on_at, all_on_by, Alike, alike-reversible}
-use Rattle.ledger.specs.Judging.{Clear, none-applies, not_back, WellFormed, well_formed, formed-by, number_avoids}
+use Rattle.ledger.proofs.Laws.{accepted-steps, refused-keeps}
+use Rattle.ledger.specs.Laws.{Alike}
+use Rattle.ledger.proofs.Laws.{decision-at, decision-self, in_force-with, in_force-without, all_on_at, all_on_by, alike-reversible}
+use Rattle.ledger.proofs.Judging.{Clear, none-applies, not_back, WellFormed, well_formed, formed-by, number_avoids}
 
 pub and-true : (b : Bool) → (b && true) ≡ b
 and-true true = refl

@@ -1,5 +1,0 @@
--- `back` is the answer to its call.
-use Rattle.calls.proofs.back.Goals as goal
-
-pub returns : goal.returns
-returns c = c.answer.ensures

@@ -1,6 +1,0 @@
--- `choose` is the answer to its call.
-use Rattle.calls.proofs.choose.Goals as goal
-
-pub returns : goal.returns
-returns c =
-    rw c.decides-call.ensures at c.answer.ensures

@@ -1,5 +1,0 @@
--- `show` is the answer to its call.
-use Rattle.calls.proofs.show.Goals as goal
-
-pub returns : goal.returns
-returns c = c.answer.ensures

@@ -1,0 +1,6 @@
+-- What holds of the definitions of `ledger`.
+pub mod Judging
+pub mod Laws
+pub mod Sound
+pub mod Selection
+pub mod Theorems
