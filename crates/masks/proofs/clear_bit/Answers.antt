@@ -1,7 +1,7 @@
 -- `clear_bit` keeps all positions but one.
 use mathlib.Core.Path.{sym}
 use native.Mathlib.Omega.{arith}
-use Rattle.masks.specs.Words.{one_shl, clear-word}
+use Rattle.masks.proofs.Words.{one_shl, clear-word}
 use Rattle.masks.proofs.clear_bit.Goals as goal
 
 pub returns : goal.returns

@@ -2,7 +2,7 @@
 use Prim.Native.Nat.{◌/◌, ◌^◌}
 use native.Mathlib.Omega.{arith}
 use lib.Bits.{and_le_r}
-use Rattle.masks.specs.Floods.{flood-code}
+use Rattle.masks.proofs.Floods.{flood-code}
 use Rattle.masks.proofs.flood.Goals as goal
 
 pub overflow_mul-result : goal.overflow_mul-result

@@ -1,5 +1,5 @@
 -- `has_bit` reads one bit of a word.
-use Rattle.masks.specs.Words.{shr_one}
+use Rattle.masks.proofs.Words.{shr_one}
 use Rattle.masks.proofs.has_bit.Goals as goal
 
 pub returns : goal.returns

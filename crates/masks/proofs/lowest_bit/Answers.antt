@@ -1,8 +1,8 @@
 -- `lowest_bit` counts the zeros below the lowest position.
 use native.Mathlib.Omega.{arith}
 use lib.Count.{trailing_le}
-use Rattle.masks.specs.Bits.{bit_bound}
-use Rattle.masks.specs.Words.{trailing_lowest}
+use Rattle.masks.proofs.Bits.{bit_bound}
+use Rattle.masks.proofs.Words.{trailing_lowest}
 use Rattle.masks.proofs.lowest_bit.Goals as goal
 
 pub overflow_cast-result : goal.overflow_cast-result

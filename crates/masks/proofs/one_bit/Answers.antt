@@ -1,6 +1,6 @@
 -- `one_bit` shifts 1 to its place.
 use native.Mathlib.Omega.{arith}
-use Rattle.masks.specs.Words.{one_shl}
+use Rattle.masks.proofs.Words.{one_shl}
 use Rattle.masks.proofs.one_bit.Goals as goal
 
 pub returns : goal.returns

@@ -1,6 +1,6 @@
 -- `cut` stores one mask.
 use mathlib.Core.Path.{sym}
-use Rattle.masks.specs.Settings.{cut-set}
+use Rattle.masks.proofs.Settings.{cut-set}
 use Rattle.masks.proofs.Domains.cut.Goals as goal
 
 pub returns : goal.returns

@@ -1,6 +1,6 @@
 -- `lose` stores one mask.
 use mathlib.Core.Path.{sym}
-use Rattle.masks.specs.Settings.{lose-set}
+use Rattle.masks.proofs.Settings.{lose-set}
 use Rattle.masks.proofs.Domains.lose.Goals as goal
 
 pub returns : goal.returns
