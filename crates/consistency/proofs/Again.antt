@@ -1,9 +1,11 @@
 -- While all that a passed test left is there, the test passes and leaves just that (02, request 2). Assumes nothing.
 use Rattle.std.specs.Prelude.{◌≡◌, true, List, ℕ, length}
 use Rattle.std.proofs.Common.{◌∙◌, sym}
-use Rattle.masks.specs.Sets.{◌⊆◌, ⊆_antisymm}
-use Rattle.masks.specs.Settings.{cut, cut_mono}
-use Rattle.masks.specs.Restrict.{restrict_⊆, restrict-at, restrict-by}
+use Rattle.masks.specs.Sets.{◌⊆◌}
+use Rattle.masks.proofs.Sets.{⊆_antisymm}
+use Rattle.masks.specs.Settings.{cut}
+use Rattle.masks.proofs.Settings.{cut_mono}
+use Rattle.masks.proofs.Restrict.{restrict_⊆, restrict-at, restrict-by}
 use Rattle.consistency.specs.Problem.{Problem}
 use Rattle.consistency.proofs.Closing.{closing-is, closing_mono}
 use Rattle.consistency.specs.Neighbourhood.{neighbourhood}

@@ -1,7 +1,7 @@
 -- With every field selected the offers are those of 01 (02, request 7). Assumes nothing.
 use Rattle.std.specs.Prelude.{◌≡◌, ◌↔◌, true, List, ℕ, ◌≤◌, ◌<◌, length}
 use Rattle.masks.specs.Bits.{Within}
-use Rattle.masks.specs.Settings.{cut_⊆}
+use Rattle.masks.proofs.Settings.{cut_⊆}
 use Rattle.consistency.specs.Largest.{IsLargest, IsLargest_iff, Monotone, AllPass, largest-is}
 use Rattle.consistency.specs.Problem.{has_field, Problem, triple_at, TriplesIn, field_below, OnFields, all_fields, in_all_fields}
 use Rattle.consistency.specs.Problem.{linked-rule, linked-triple}

@@ -3,8 +3,9 @@ use Rattle.std.specs.Prelude.{◌≡◌, true, List, ℕ, length}
 use Rattle.std.proofs.Common.{◌∙◌}
 use Rattle.masks.specs.Tests.{never, not_so}
 use Rattle.masks.specs.Sets.{◌⊆◌}
-use Rattle.masks.specs.Settings.{cut, cut_at, cut_by, length_cut, empty, empty-at, empty-not}
-use Rattle.masks.specs.Restrict.{length-restrict, restrict_⊆, restrict-by}
+use Rattle.masks.specs.Settings.{cut, length_cut, empty}
+use Rattle.masks.proofs.Settings.{cut_at, cut_by, empty-at, empty-not}
+use Rattle.masks.proofs.Restrict.{length-restrict, restrict_⊆, restrict-by}
 use Rattle.consistency.specs.Problem.{Problem, triple_at}
 use Rattle.consistency.specs.Triples.{together-free}
 use Rattle.consistency.proofs.Closing.{closing-is}

@@ -9,7 +9,7 @@ use Rattle.std.proofs.Math.Dec.{eqb, leb}
 use borrow.Author.Tests.{eqb-true, eq-eqb, leb-true, leb-false}
 use Rattle.limits.specs.Limits.{whole_reach}
 use Rattle.masks.specs.Bits.{bit, Within}
-use Rattle.masks.specs.Masks.{mask_of_in}
+use Rattle.masks.proofs.Masks.{mask_of_in}
 use Rattle.consistency.specs.Problem.{Problem, Symmetric, In, all_fields, in_all_fields, all_fields_bound, linked, linked-symmetric}
 use Rattle.consistency.specs.Neighbourhood.{fields_within, neighbourhood, Walk, within_bound, widen_keeps, widen-adds, widen-at}
 use Rattle.consistency.specs.Neighbourhood.{neighbourhood-near, stay, go}

@@ -3,7 +3,8 @@ use Rattle.std.specs.Prelude.{◌≡◌, ◌↔◌, true, false, List, ℕ, ◌<
 use Rattle.std.proofs.Common.{ltb-true, lt-ltb}
 use Rattle.masks.specs.Tests.{never, not_so, and_l, and_r, and-by, ⇒_at, ⇒_by}
 use Rattle.masks.specs.Sets.{has, ◌⊆◌}
-use Rattle.masks.specs.Settings.{lose, empty, empty-at, empty-by, some_empty-at, some_empty-by}
+use Rattle.masks.specs.Settings.{lose, empty, some_empty-at, some_empty-by}
+use Rattle.masks.proofs.Settings.{empty-at, empty-by}
 use Rattle.consistency.specs.Largest.{IsLargest, IsLargest_mono, IsLargest_iff, IsLargest_unique, Test, Monotone, AllPass, largest-is}
 use Rattle.consistency.proofs.Runs.{largest-lose, largest-done, largest_between, run-largest}
 use Rattle.consistency.specs.Runs.{Run}

@@ -3,8 +3,10 @@ use Rattle.std.specs.Prelude.{◌≡◌, List, ℕ, ◌≤◌}
 use Rattle.std.proofs.Common.{sym, ap, ◌∙◌}
 use Rattle.std.proofs.Math.Decide.{le_ind}
 use Rattle.masks.specs.Tests.{never}
-use Rattle.masks.specs.Bits.{bit, bit_of-zero, Within}
-use Rattle.masks.specs.Sets.{◌⊆◌, ⊆_antisymm}
+use Rattle.masks.specs.Bits.{bit, Within}
+use Rattle.masks.proofs.Bits.{bit_of-zero}
+use Rattle.masks.specs.Sets.{◌⊆◌}
+use Rattle.masks.proofs.Sets.{⊆_antisymm}
 use Rattle.consistency.specs.Largest.{IsLargest_stricter, IsLargest_iff}
 use Rattle.consistency.specs.Problem.{Problem, In, all_fields}
 use Rattle.consistency.specs.Closing.{Closed, closing}

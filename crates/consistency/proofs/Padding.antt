@@ -4,7 +4,8 @@
 -- are 0.
 use Rattle.std.specs.Prelude.{◌≡◌, List, ℕ, ◌+◌, length}
 use Rattle.std.proofs.Common.{sym, ap, ◌∙◌}
-use Rattle.masks.specs.Sets.{◌⊆◌, ⊆_trans, ⊆_antisymm, pad, length-pad, has-pad}
+use Rattle.masks.specs.Sets.{◌⊆◌, ⊆_trans, pad, length-pad, has-pad}
+use Rattle.masks.proofs.Sets.{⊆_antisymm}
 use Rattle.consistency.specs.Problem.{Problem}
 use Rattle.consistency.specs.Closing.{closing}
 use Rattle.consistency.proofs.Closing.{closing-is, closing_mono}

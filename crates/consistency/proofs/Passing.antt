@@ -4,7 +4,8 @@ use Rattle.std.proofs.Common.{sym, ◌∙◌}
 use Rattle.std.proofs.Math.Path.{ap}
 use Rattle.masks.specs.Bits.{Within}
 use Rattle.masks.specs.Sets.{has}
-use Rattle.masks.specs.Settings.{cut, cut_⊆, cut_at, cut_mono, empty-not}
+use Rattle.masks.specs.Settings.{cut}
+use Rattle.masks.proofs.Settings.{cut_⊆, cut_at, cut_mono, empty-not}
 use Rattle.consistency.specs.Largest.{Monotone}
 use Rattle.consistency.specs.Problem.{Problem, In}
 use Rattle.consistency.proofs.Closing.{closing-is, closing_mono}

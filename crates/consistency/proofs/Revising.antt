@@ -4,8 +4,10 @@ use Rattle.std.proofs.Math.Path.{refl}
 use Rattle.std.proofs.Common.{arith}
 use Rattle.masks.specs.Tests.{never, and_l, and_r, and-by, ⇒_at, ⇒_by}
 use Rattle.masks.specs.Bits.{bit}
-use Rattle.masks.specs.Sets.{has, ◌⊆◌, only_at, only-by}
-use Rattle.masks.specs.Settings.{empty, empty-at, empty-by}
+use Rattle.masks.specs.Sets.{has, ◌⊆◌}
+use Rattle.masks.proofs.Sets.{only_at, only-by}
+use Rattle.masks.specs.Settings.{empty}
+use Rattle.masks.proofs.Settings.{empty-at, empty-by}
 use Rattle.consistency.specs.Largest.{IsLargest_stricter}
 use Rattle.consistency.specs.Problem.{Triple, has_field, Problem, triple_at, TripleIn}
 use Rattle.consistency.specs.Triples.{Free, free_mono, Together, together-free}

@@ -3,7 +3,8 @@ use Rattle.std.specs.Prelude.{◌≡◌, false, List, ℕ, length}
 use Rattle.std.proofs.Common.{◌∙◌}
 use Rattle.masks.specs.Tests.{never}
 use Rattle.masks.specs.Sets.{◌⊆◌}
-use Rattle.masks.specs.Settings.{lose, length-lose, lose_⊆, lose-by}
+use Rattle.masks.specs.Settings.{lose, length-lose}
+use Rattle.masks.proofs.Settings.{lose_⊆, lose-by}
 use Rattle.consistency.specs.Largest.{IsLargest_unique, IsLargest-self, IsLargest_between, Test, Monotone, AllPass, largest, largest-is}
 use Rattle.consistency.specs.Runs.{Run, stop, step}
 

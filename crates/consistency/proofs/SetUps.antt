@@ -3,8 +3,10 @@ use Rattle.std.specs.Prelude.{◌≡◌, refl, Bool, true, false, ◌&&◌, List
 use Rattle.std.proofs.Common.{sym, ap, ◌∙◌}
 use borrow.Author.Tests.{eqb-true, eq-eqb, ltb-true, lt-ltb}
 use Rattle.masks.specs.Tests.{never, not_so, and_l, and_r, and-by}
-use Rattle.masks.specs.Sets.{has, ◌⊆◌, only, only_⊆, only_at, only-by}
-use Rattle.masks.specs.Settings.{cut_by, empty, empty-at}
+use Rattle.masks.specs.Sets.{has, ◌⊆◌, only}
+use Rattle.masks.proofs.Sets.{only_⊆, only_at, only-by}
+use Rattle.masks.specs.Settings.{empty}
+use Rattle.masks.proofs.Settings.{cut_by, empty-at}
 use Rattle.consistency.specs.Problem.{has_first, has-second, has-third, Problem, triple_at, TriplesIn, field_below, SetUp}
 use Rattle.consistency.specs.Triples.{Free, Together}
 use Rattle.consistency.specs.Closing.{Closed, closing}

@@ -5,7 +5,8 @@ use Rattle.std.proofs.Math.Dec.{eqb}
 use borrow.Author.Tests.{eqb-true, eq-eqb}
 use Rattle.masks.specs.Tests.{and_l, and_r, and-by, ◌⇒◌, ⇒_at, ⇒_by}
 use Rattle.masks.specs.Bits.{bit}
-use Rattle.masks.specs.Masks.{some_bit, some_bit-at, some_bit-by}
+use Rattle.masks.specs.Masks.{some_bit}
+use Rattle.masks.proofs.Masks.{some_bit-at, some_bit-by}
 use Rattle.masks.specs.Sets.{has}
 use Rattle.consistency.specs.Problem.{Triple, Problem}
 use Rattle.consistency.specs.Triples.{Free, Together, takes, third_fits, second_fits, together}

@@ -10,7 +10,7 @@ use Prim.Native.Nat.{ℕ, zero, suc, ◌<◌}
 use Rattle.masks.specs.Tests.{never, bool_cases, and-by, or_l, or_r}
 use Rattle.masks.specs.Bits.{bit}
 use Rattle.masks.specs.Sets.{has, ◌⊆◌}
-use Rattle.masks.specs.Settings.{cut_⊆}
+use Rattle.masks.proofs.Settings.{cut_⊆}
 use Rattle.consistency.specs.Largest.{IsLargest, IsLargest_iff}
 use Rattle.consistency.specs.Problem.{Triple, no_triple, has_field, field-cases, Problem, triple_at, In, all_fields, in_all_fields}
 use Rattle.consistency.specs.Triples.{Free, Together, together-from}

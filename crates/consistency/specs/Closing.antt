@@ -2,7 +2,8 @@
 use Rattle.std.specs.Prelude.{◌≡◌, Bool, true, ◌&&◌, List, ℕ, ◌<◌, ltb, length, get_or}
 use Rattle.masks.specs.Tests.{◌⇒◌, all_below}
 use Rattle.masks.specs.Bits.{bit, Within}
-use Rattle.masks.specs.Masks.{some_bit, some_bit-at, some_bit-by}
+use Rattle.masks.specs.Masks.{some_bit}
+use Rattle.masks.proofs.Masks.{some_bit-at, some_bit-by}
 use Rattle.masks.specs.Sets.{has, ◌⊆◌}
 use Rattle.consistency.specs.Largest.{Test, largest}
 use Rattle.consistency.specs.Problem.{has_field, Problem, triple_at, In}

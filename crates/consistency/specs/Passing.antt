@@ -6,7 +6,8 @@ use borrow.Author.Tests.{not-true}
 use Rattle.masks.specs.Tests.{never, not_so, ◌⇒◌, ⇒_at, ⇒_by, all_below, all_below-at, all_below-by}
 use Rattle.masks.specs.Bits.{bit}
 use Rattle.masks.specs.Sets.{◌⊆◌}
-use Rattle.masks.specs.Settings.{cut, empty, empty-at, empty-not}
+use Rattle.masks.specs.Settings.{cut, empty}
+use Rattle.masks.proofs.Settings.{empty-at, empty-not}
 use Rattle.consistency.specs.Largest.{Test}
 use Rattle.consistency.specs.Problem.{Problem, In}
 use Rattle.consistency.specs.Closing.{Closed, closing}

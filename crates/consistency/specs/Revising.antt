@@ -6,7 +6,8 @@ use Rattle.std.proofs.Math.Path.{refl}
 use Rattle.std.proofs.Common.{ap, ◌∙◌, arith}
 use Rattle.masks.specs.Tests.{never, ◌⇒◌}
 use Rattle.masks.specs.Bits.{bit}
-use Rattle.masks.specs.Sets.{has, has-mask, ◌⊆◌, only, length-only, only_⊆}
+use Rattle.masks.specs.Sets.{has, has-mask, ◌⊆◌, only, length-only}
+use Rattle.masks.proofs.Sets.{only_⊆}
 use Rattle.consistency.specs.Problem.{Triple, has_field, Problem, triple_at, TriplesIn, field_below, In, all_fields, in_all_fields}
 use Rattle.consistency.specs.Triples.{Free, Together, together-free, together}
 use Rattle.consistency.specs.Closing.{Closed}
