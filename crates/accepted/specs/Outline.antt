@@ -7,9 +7,10 @@ use native.Mathlib.Omega.{arith}
 use Rattle.std.proofs.Math.Dec.{ltb}
 use Rattle.limits.specs.Limits.{most_fields, most_settings}
 use Rattle.masks.specs.Tests.{bool_cases}
-use Rattle.masks.specs.Bits.{bit_of-zero}
-use Rattle.masks.specs.Masks.{mask_of, bit-mask_of, mask_of_all}
-use Rattle.masks.specs.Words.{one_shl}
+use Rattle.masks.proofs.Bits.{bit_of-zero}
+use Rattle.masks.specs.Masks.{mask_of, mask_of_all}
+use Rattle.masks.proofs.Masks.{bit-mask_of}
+use Rattle.masks.proofs.Words.{one_shl}
 use Rattle.masks.specs.Sets.{has, pad, get_d_pad}
 use Rattle.sheet.specs.Sources.{Accepted}
 use Rattle.accepted.specs.declared.outline.Outline.{Outline}

@@ -9,10 +9,14 @@ use Rattle.std.specs.Int.Bits.{bit_or, bit_xor}
 use borrow.Author.Tests.{eq-eqb, ne_eqb}
 use Rattle.limits.specs.Limits.{most_fields, most_settings, counter_words, support_words, list_places}
 use Rattle.masks.specs.Tests.{never, not_so, bool_cases, eq_cases, iff_eq}
-use Rattle.masks.specs.Bits.{bit, bit_bound, Within}
-use Rattle.masks.specs.Words.{bit-xor, bit-one, clear, clear_within, clear-same}
-use Rattle.masks.specs.Sets.{has, has_ext, ◌⊆◌, ⊆_trans}
-use Rattle.masks.specs.Settings.{cut, cut_⊆, cut_by, lose, lose_⊆, lose-by, lose-set, length-lose, empty, empty-at, empty-by, empty-not}
+use Rattle.masks.specs.Bits.{bit, Within}
+use Rattle.masks.proofs.Bits.{bit_bound}
+use Rattle.masks.specs.Words.{clear}
+use Rattle.masks.proofs.Words.{bit-xor, bit-one, clear_within, clear-same}
+use Rattle.masks.specs.Sets.{has, ◌⊆◌, ⊆_trans}
+use Rattle.masks.proofs.Sets.{has_ext}
+use Rattle.masks.specs.Settings.{cut, lose, length-lose, empty}
+use Rattle.masks.proofs.Settings.{cut_⊆, cut_by, lose_⊆, lose-by, lose-set, empty-at, empty-by, empty-not}
 use Rattle.removal_list.specs.Count.{Small, count_most}
 use Rattle.removal_list.specs.Moved.{Moved, without, has-without, length_without}
 use Rattle.consistency.specs.Problem.{has_field, Problem, triple_at, all_fields, in_all_fields, all_fields_bound}

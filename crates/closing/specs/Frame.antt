@@ -7,9 +7,11 @@ use Rattle.std.proofs.lemmas.Bool.{not-true, not-false}
 use Rattle.masks.specs.Tests.{never, not_so, bool_cases, eq_cases}
 use Rattle.masks.specs.Bits.{bit, Within}
 use Rattle.masks.specs.Sets.{has, has-mask, ◌⊆◌}
-use Rattle.masks.specs.Settings.{cut, cut_⊆, cut_at, cut_by, length_cut, lose, lose-at, empty, empty-at}
-use Rattle.masks.specs.Settings.{empty-not, some_empty}
-use Rattle.masks.specs.Restrict.{restrict_⊆, restrict-at}
+use Rattle.masks.specs.Settings.{cut, length_cut, lose, empty}
+use Rattle.masks.proofs.Settings.{cut_⊆, cut_at, cut_by, lose-at, empty-at}
+use Rattle.masks.specs.Settings.{some_empty}
+use Rattle.masks.proofs.Settings.{empty-not}
+use Rattle.masks.proofs.Restrict.{restrict_⊆, restrict-at}
 use Rattle.consistency.specs.Problem.{Problem, In, OnFields, all_fields, in_all_fields}
 use Rattle.consistency.specs.Closing.{Closed, closing}
 use Rattle.consistency.proofs.Closing.{closing-is}

@@ -4,8 +4,10 @@ use Rattle.std.proofs.Common.{sym, ap, ◌∙◌, inl, inr, ⊎_elim, eq-or-lt_o
 use Rattle.std.proofs.Math.ListN.{get_or-eq_default}
 use Rattle.limits.specs.Limits.{most_fields, counts_words, counter_words}
 use Rattle.masks.specs.Tests.{never, bool_cases, eq_cases}
-use Rattle.masks.specs.Bits.{bit, bit_of-zero}
-use Rattle.masks.specs.Words.{clear, clear-other}
+use Rattle.masks.specs.Bits.{bit}
+use Rattle.masks.proofs.Bits.{bit_of-zero}
+use Rattle.masks.specs.Words.{clear}
+use Rattle.masks.proofs.Words.{clear-other}
 use Rattle.counter.specs.Counts.{OnlyTowards}
 use Rattle.pruning.specs.Prune.{OnlySpent}
 

@@ -5,9 +5,10 @@ use Rattle.std.proofs.Common.{sym, ap, ◌∙◌, arith, eqb-true}
 use Rattle.std.specs.Int.Bits.{bit_or, bit_xor}
 use Rattle.limits.specs.Limits.{most_fields, counter_words, list_places}
 use Rattle.masks.specs.Bits.{bit, Within}
-use Rattle.masks.specs.Words.{bit-one}
+use Rattle.masks.proofs.Words.{bit-one}
 use Rattle.masks.specs.Sets.{has, count}
-use Rattle.masks.specs.Settings.{cut, cut_⊆, length_cut, lose, lose_⊆, length-lose, empty}
+use Rattle.masks.specs.Settings.{cut, length_cut, lose, length-lose, empty}
+use Rattle.masks.proofs.Settings.{cut_⊆, lose_⊆}
 use Rattle.removal_list.specs.Count.{Small, count_most}
 use Rattle.removal_list.specs.Moved.{Moved, moved_then, without}
 use Rattle.consistency.specs.Problem.{Problem, all_fields, in_all_fields}

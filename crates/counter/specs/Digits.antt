@@ -4,8 +4,9 @@ use Rattle.std.proofs.Math.Path.{refl}
 use Rattle.std.proofs.Common.{sym, ap, ◌∙◌, arith, eq-eqb, ne_eqb, length-set, get_or-set_same, get_or-set_other}
 use Rattle.std.proofs.Math.Bool.{xor}
 use Rattle.std.specs.Int.Bits.{bit_and, bit_or, bit_xor}
-use Rattle.masks.specs.Bits.{bit, bit_of-zero}
-use Rattle.masks.specs.Words.{bit-and, bit-or, bit-xor}
+use Rattle.masks.specs.Bits.{bit}
+use Rattle.masks.proofs.Bits.{bit_of-zero}
+use Rattle.masks.proofs.Words.{bit-and, bit-or, bit-xor}
 use Rattle.masks.specs.Masks.{digit}
 
 -- The count of position a whose digits are the bits a of the words at p, p + 24, p + 48, p + 72 and p + 96.

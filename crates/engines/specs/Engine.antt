@@ -5,7 +5,8 @@ use Rattle.std.proofs.Common.{ap, ◌∙◌, true≢false}
 use Rattle.std.specs.Int.Bits.{bit_or}
 use Rattle.std.proofs.lemmas.Bool.{not-true, not-false}
 use Rattle.masks.specs.Tests.{never, not_so}
-use Rattle.masks.specs.Bits.{bit, bit_of-zero, Within}
+use Rattle.masks.specs.Bits.{bit, Within}
+use Rattle.masks.proofs.Bits.{bit_of-zero}
 use Rattle.masks.specs.Sets.{has, ◌⊆◌}
 use Rattle.masks.specs.Settings.{empty, some_empty, some_empty-at, some_empty-by}
 use Rattle.consistency.specs.Largest.{IsLargest-self}

@@ -3,7 +3,8 @@ use Rattle.std.specs.Prelude.{◌≡◌, Bool, true, false, List, ℕ, ◌+◌, 
 use Rattle.std.proofs.Common.{sym, ap, ◌∙◌, ⊎_elim, true≢false, eq-or-lt_of_le, arith}
 use Rattle.std.specs.Int.Bits.{bit_or}
 use Rattle.masks.specs.Tests.{never}
-use Rattle.masks.specs.Bits.{bit, bit_of-zero}
+use Rattle.masks.specs.Bits.{bit}
+use Rattle.masks.proofs.Bits.{bit_of-zero}
 use Rattle.consistency.specs.Problem.{Problem, In}
 use Rattle.pruning.specs.Shrunk.{zero_or, shrunk-still}
 use Rattle.closing.specs.Frame.{Live}

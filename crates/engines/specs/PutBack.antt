@@ -9,10 +9,13 @@ use borrow.Author.Tests.{eq-eqb, ne_eqb, lt-ltb, leb-true, leb-false, le-leb, lt
 use Rattle.limits.specs.Limits.{most_fields, whole_reach}
 use Rattle.masks.specs.Tests.{never, bool_cases, eq_cases, iff_eq, and_l, and_r, and-by, or_l, or_r, or_at}
 use Rattle.masks.specs.Tests.{some_below, some_below-at, some_below-by}
-use Rattle.masks.specs.Bits.{bit, bit_of-zero, bit_ext, bit_nonzero, Within}
-use Rattle.masks.specs.Masks.{mask_of, bit-mask_of, mask_of_in, mask_of_bound}
-use Rattle.masks.specs.Loops.{mask_cong}
-use Rattle.masks.specs.Words.{bit-and, bit-or, clear, clear_within, clear-other}
+use Rattle.masks.specs.Bits.{bit, Within}
+use Rattle.masks.proofs.Bits.{bit_of-zero, bit_ext, bit_nonzero}
+use Rattle.masks.specs.Masks.{mask_of}
+use Rattle.masks.proofs.Masks.{bit-mask_of, mask_of_in, mask_of_bound}
+use Rattle.masks.proofs.Loops.{mask_cong}
+use Rattle.masks.specs.Words.{clear}
+use Rattle.masks.proofs.Words.{bit-and, bit-or, clear_within, clear-other}
 use Rattle.consistency.specs.Problem.{Problem, all_fields}
 use Rattle.pruning.specs.Shrunk.{or-within}
 use Rattle.engines.specs.Engine.{Hoods}

@@ -4,8 +4,10 @@ use Rattle.std.proofs.Common.{sym, ap, ◌∙◌, inl, inr, ⊎_elim, true≢fal
 use Rattle.std.specs.Int.Bits.{bit_or}
 use Rattle.limits.specs.Limits.{most_fields}
 use Rattle.masks.specs.Tests.{never, not_so, eq_cases}
-use Rattle.masks.specs.Bits.{bit, bit-some, Within, within-le}
-use Rattle.masks.specs.Words.{clear, clear_within, clear-same, clear-other}
+use Rattle.masks.specs.Bits.{bit, Within}
+use Rattle.masks.proofs.Bits.{bit-some, within-le}
+use Rattle.masks.specs.Words.{clear}
+use Rattle.masks.proofs.Words.{clear_within, clear-same, clear-other}
 use Rattle.masks.specs.Sets.{count}
 use Rattle.consistency.specs.Problem.{Problem, In, all_fields, all_fields_bound}
 use Rattle.pruning.specs.Shrunk.{zero_or, shrunk-still, shrunk_fewer}

@@ -4,7 +4,8 @@ use Rattle.std.proofs.Common.{ap, ◌∙◌, arith}
 use Rattle.std.proofs.lemmas.List.{length-replicate}
 use Rattle.limits.specs.Limits.{most_fields, most_settings, rows_words, memory_words}
 use Rattle.masks.specs.Tests.{never, all_below, some_below}
-use Rattle.masks.specs.Bits.{bit, bit_of-zero, bit_bound}
+use Rattle.masks.specs.Bits.{bit}
+use Rattle.masks.proofs.Bits.{bit_of-zero, bit_bound}
 use Rattle.masks.specs.Masks.{mask_of, keep_in, keep_bits, some_in, some_bit, count_in, count_bits}
 use Rattle.masks.specs.Sets.{has, only, count, same, get_d_zeros}
 use Rattle.masks.specs.Settings.{cut, empty, some_empty}

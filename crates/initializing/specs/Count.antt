@@ -4,9 +4,11 @@ use Rattle.std.proofs.Common.{sym, ap, ◌∙◌, arith}
 use Rattle.std.proofs.Math.Bool.{not, and-false}
 use Rattle.limits.specs.Limits.{most_fields, most_settings}
 use Rattle.masks.specs.Tests.{iff_eq, and_l, and_r, and-by}
-use Rattle.masks.specs.Bits.{bit, bit_of-zero, Within}
+use Rattle.masks.specs.Bits.{bit, Within}
+use Rattle.masks.proofs.Bits.{bit_of-zero}
 use Rattle.masks.specs.Masks.{digit}
-use Rattle.masks.specs.Words.{clear, clear_within, clear-same, clear-other}
+use Rattle.masks.specs.Words.{clear}
+use Rattle.masks.proofs.Words.{clear_within, clear-same, clear-other}
 use Rattle.masks.specs.Sets.{has}
 use Rattle.counter.specs.Counts.{count_at, OnlyFirst, Raised, only-towards}
 use Rattle.consistency.specs.Problem.{Problem}

@@ -7,7 +7,8 @@ use Rattle.std.specs.Int.Bits.{bit_or}
 use borrow.Author.Tests.{eqb-true, eqb-false}
 use Rattle.limits.specs.Limits.{most_fields, most_settings, counter_words, support_words, list_places}
 use Rattle.masks.specs.Tests.{never, not_so, bool_cases, iff_eq, and_l, and_r, and-by}
-use Rattle.masks.specs.Bits.{bit, bit_of-zero, bit_bound, Within}
+use Rattle.masks.specs.Bits.{bit, Within}
+use Rattle.masks.proofs.Bits.{bit_of-zero, bit_bound}
 use Rattle.masks.specs.Sets.{has, ◌⊆◌, count}
 use Rattle.counter.specs.Counts.{count_at, OnlyTowards, Uncounted, other-count, counts-none}
 use Rattle.removal_list.specs.Count.{Small, count_most}

@@ -7,9 +7,12 @@ use Rattle.std.specs.Int.Bits.{bit_and}
 use borrow.Author.Tests.{ltb-true, ltb-false}
 use Rattle.limits.specs.Limits.{most_fields, most_settings}
 use Rattle.masks.specs.Tests.{never, bool_cases, eq_cases, iff_eq, and_l, and_r, and-by}
-use Rattle.masks.specs.Bits.{bit, bit_of-zero, bit_bound, Within}
-use Rattle.masks.specs.Words.{bit-and, clear, clear_within, clear-other}
-use Rattle.masks.specs.Floods.{flood, flood-at, flood-by}
+use Rattle.masks.specs.Bits.{bit, Within}
+use Rattle.masks.proofs.Bits.{bit_of-zero, bit_bound}
+use Rattle.masks.specs.Words.{clear}
+use Rattle.masks.proofs.Words.{bit-and, clear_within, clear-other}
+use Rattle.masks.specs.Floods.{flood}
+use Rattle.masks.proofs.Floods.{flood-at, flood-by}
 use Rattle.masks.specs.Sets.{has}
 use Rattle.removal_list.specs.Count.{Small}
 use Rattle.network.specs.Tables.{rows_of, rule_problem, Wired}

@@ -5,8 +5,10 @@ use Rattle.std.proofs.Math.Logic.{⊎_elim}
 use Rattle.std.proofs.Math.Bool.{not}
 use borrow.Author.Tests.{eqb-false, ltb-true, ltb-false}
 use Rattle.masks.specs.Tests.{never, bool_cases, eq_cases}
-use Rattle.masks.specs.Bits.{bit, bit_of-zero, Within}
-use Rattle.masks.specs.Masks.{keep_bits, some_bit-by}
+use Rattle.masks.specs.Bits.{bit, Within}
+use Rattle.masks.proofs.Bits.{bit_of-zero}
+use Rattle.masks.specs.Masks.{keep_bits}
+use Rattle.masks.proofs.Masks.{some_bit-by}
 use Rattle.masks.specs.Sets.{has, ◌⊆◌}
 use Rattle.consistency.specs.Problem.{Problem, OnFields, all_fields}
 use Rattle.consistency.specs.Largest.{IsLargest}

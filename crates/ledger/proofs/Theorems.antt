@@ -10,7 +10,8 @@ use Rattle.limits.specs.Refusals.{UNKNOWN, NO_ORDER}
 use Rattle.masks.specs.Tests.{never, not_so, and_l, and_r, and-by, or_l, or_r, or_at, some_below, some_below-at}
 use Rattle.masks.specs.Tests.{some_below-by}
 use Rattle.masks.specs.Bits.{bit}
-use Rattle.masks.specs.Masks.{keep_bits, bit-keep_bits, some_bit-at, some_bit-by}
+use Rattle.masks.specs.Masks.{keep_bits}
+use Rattle.masks.proofs.Masks.{bit-keep_bits, some_bit-at, some_bit-by}
 use Rattle.masks.specs.Sets.{has}
 use Rattle.masks.specs.Pick.{pick}
 use Rattle.consistency.specs.SetUps as setUps

@@ -5,7 +5,7 @@ use Rattle.std.proofs.Math.Bool.{and-false}
 use Rattle.limits.specs.Limits.{most_settings, triples_front, triple_words}
 use Rattle.masks.specs.Tests.{bool_cases}
 use Rattle.masks.specs.Bits.{bit}
-use Rattle.masks.specs.Masks.{bit-mask_of}
+use Rattle.masks.proofs.Masks.{bit-mask_of}
 use Rattle.sheet.specs.Sources.{Accepted}
 use Rattle.accepted.specs.Parts.{count_of, triples_of, triple_first, triple_second, triple_third, triple_allows}
 use Rattle.accepted.specs.Facts.{facts}

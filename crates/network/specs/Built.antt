@@ -10,8 +10,10 @@ use borrow.Author.Tests.{ltb-true, ltb-false, lt-ltb, le-ltb}
 use Rattle.limits.specs.Limits.{most_fields, most_settings, table_words}
 use Rattle.masks.specs.Tests.{never, not_so, bool_cases, iff_eq, and_l, and_r, and-by, or_l, or_r, or_at, some_below, some_below-at}
 use Rattle.masks.specs.Tests.{some_below-by}
-use Rattle.masks.specs.Bits.{bit, bit_of-zero}
-use Rattle.masks.specs.Masks.{mask_of, bit-mask_of}
+use Rattle.masks.specs.Bits.{bit}
+use Rattle.masks.proofs.Bits.{bit_of-zero}
+use Rattle.masks.specs.Masks.{mask_of}
+use Rattle.masks.proofs.Masks.{bit-mask_of}
 use Rattle.consistency.specs.Revising.{rules_only}
 use Rattle.sheet.specs.Sources.{Accepted}
 use Rattle.accepted.specs.Parts.{fields_of, count_of, rules_of, first_of, second_of, rule_allows}

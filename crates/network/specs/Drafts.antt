@@ -4,7 +4,7 @@ use Rattle.std.proofs.Common.{sym, ap, ◌∙◌, inl, inr, ⊎_elim, eq-or-lt_o
 use Rattle.limits.specs.Limits.{most_settings}
 use Rattle.masks.specs.Tests.{bool_cases}
 use Rattle.masks.specs.Masks.{mask_of}
-use Rattle.masks.specs.Loops.{mask-false}
+use Rattle.masks.proofs.Loops.{mask-false}
 use Rattle.accepted.specs.Parts.{fields_of, field_start, count_of, setting_of, triple_first, triple_second, triple_third, triple_number}
 use Rattle.accepted.specs.Parts.{triple_allows, FieldAt, TripleAt}
 use Rattle.accepted.specs.Kinds.{even_draft}

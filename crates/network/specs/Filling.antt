@@ -5,8 +5,9 @@ use Rattle.std.specs.Int.Bits.{bit_or}
 use Rattle.std.proofs.lemmas.List.{length-replicate}
 use Rattle.limits.specs.Limits.{most_fields, most_settings, most_rules, rows_words, table_words}
 use Rattle.masks.specs.Tests.{not_so, bool_cases, eq_cases, iff_eq, and-by, or_l, or_r, or_at, some_below}
-use Rattle.masks.specs.Bits.{bit, bit_of-zero}
-use Rattle.masks.specs.Words.{bit-or, bit-one}
+use Rattle.masks.specs.Bits.{bit}
+use Rattle.masks.proofs.Bits.{bit_of-zero}
+use Rattle.masks.proofs.Words.{bit-or, bit-one}
 use Rattle.masks.specs.Sets.{get_d_zeros}
 use Rattle.sheet.specs.Sources.{Accepted}
 use Rattle.accepted.specs.Parts.{rules_of, rule_start, first_of, second_of, RuleAt}

@@ -4,9 +4,10 @@ use Rattle.std.proofs.Math.Path.{sym, ap}
 use Rattle.std.proofs.Common.{◌∙◌, inl, inr, ⊎_elim, eq-or-lt_of_le, arith, length-set, get_or-set_same, get_or-set_other}
 use Rattle.std.specs.Int.Bits.{bit_or}
 use Rattle.masks.specs.Tests.{never, iff_eq, or_l, or_r, or_at}
-use Rattle.masks.specs.Bits.{bit, bit_ext, Within}
+use Rattle.masks.specs.Bits.{bit, Within}
+use Rattle.masks.proofs.Bits.{bit_ext}
 use Rattle.masks.specs.Masks.{mask_of}
-use Rattle.masks.specs.Words.{bit-or}
+use Rattle.masks.proofs.Words.{bit-or}
 use Rattle.consistency.specs.Problem.{Problem, all_fields, linked}
 use Rattle.limits.specs.Limits.{most_fields, whole_reach}
 use Rattle.consistency.specs.Neighbourhood.{widen, widen_keeps, widen-adds, widen-at, fields_within, within_bound, within-start}

@@ -10,7 +10,7 @@ use Rattle.std.proofs.Math.Dec.{eqb}
 use Rattle.limits.specs.Limits.{most_fields}
 use Rattle.masks.specs.Tests.{eq_cases, iff_eq, or_at, and_l, and_r, some_below, some_below-at, some_below-by}
 use Rattle.masks.specs.Bits.{bit}
-use Rattle.masks.specs.Words.{bit-or, bit-one}
+use Rattle.masks.proofs.Words.{bit-or, bit-one}
 use Rattle.consistency.specs.Problem.{has_field, TripleIn, field_below, triple_has, length-triples, listed-triple, linked}
 use Rattle.sheet.specs.Sources.{Accepted}
 use Rattle.accepted.specs.Parts.{fields_of, rules_of, triples_of, triple_first, triple_second, triple_third}

@@ -6,7 +6,7 @@ use Rattle.masks.specs.Masks.{mask_of}
 use Rattle.accepted.specs.Parts.{fields_of, field_start, count_of, first_of, second_of, kind_of, number_of, setting_of, rule_allows, FieldAt, RuleAt}
 use Rattle.accepted.specs.Kinds.{allows}
 use Rattle.accepted.specs.Facts.{Facts, facts}
-use Rattle.masks.specs.Loops.{mask-false}
+use Rattle.masks.proofs.Loops.{mask-false}
 use Rattle.network.specs.Built.{row_of}
 
 -- rule r at its place, its fields i and j, and where their counts stand

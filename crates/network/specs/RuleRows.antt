@@ -4,9 +4,11 @@ use Rattle.std.proofs.Common.{sym, ap, ◌∙◌, ⊎_elim, eq-or-lt_of_le, arit
 use Rattle.std.proofs.lemmas.List.{length-replicate}
 use Rattle.limits.specs.Limits.{most_settings, most_rules, table_words}
 use Rattle.masks.specs.Tests.{bool_cases}
-use Rattle.masks.specs.Bits.{bit, bit_high}
-use Rattle.masks.specs.Masks.{mask_of, bit-mask_of, mask_of-lt}
-use Rattle.masks.specs.Loops.{mask-short, mask_cong}
+use Rattle.masks.specs.Bits.{bit}
+use Rattle.masks.proofs.Bits.{bit_high}
+use Rattle.masks.specs.Masks.{mask_of, mask_of-lt}
+use Rattle.masks.proofs.Masks.{bit-mask_of}
+use Rattle.masks.proofs.Loops.{mask-short, mask_cong}
 use Rattle.masks.specs.Sets.{get_d_zeros}
 use Rattle.masks.specs.Pick.{pick_true}
 use Rattle.accepted.specs.Parts.{count_of, first_of, second_of, kind_of, number_of, value_of, rule_allows}

@@ -5,9 +5,10 @@ use Rattle.std.proofs.Math.Bool.{and-false}
 use Rattle.std.proofs.lemmas.List.{length-replicate}
 use Rattle.limits.specs.Limits.{most_fields, most_settings, triples_front, triple_words}
 use Rattle.masks.specs.Tests.{bool_cases, eq_cases, and_l}
-use Rattle.masks.specs.Bits.{bit, bit_of-zero, bit_high, lt_of_bits}
+use Rattle.masks.specs.Bits.{bit}
+use Rattle.masks.proofs.Bits.{bit_of-zero, bit_high, lt_of_bits}
 use Rattle.masks.specs.Masks.{mask_of, mask_of-lt}
-use Rattle.masks.specs.Words.{bit-one}
+use Rattle.masks.proofs.Words.{bit-one}
 use Rattle.masks.specs.Sets.{get_d_zeros, length-pad}
 use Rattle.consistency.specs.Problem.{has_field}
 use Rattle.sheet.specs.Sources.{Accepted}

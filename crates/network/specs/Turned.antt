@@ -5,10 +5,12 @@ use Rattle.std.specs.Int.Bits.{bit_and, bit_or}
 use Rattle.std.proofs.lemmas.List.{length-replicate}
 use Rattle.limits.specs.Limits.{most_settings}
 use Rattle.masks.specs.Tests.{bool_cases}
-use Rattle.masks.specs.Bits.{bit, bit_of-zero, bit_high}
+use Rattle.masks.specs.Bits.{bit}
+use Rattle.masks.proofs.Bits.{bit_of-zero, bit_high}
 use Rattle.masks.specs.Masks.{mask_of, digit}
-use Rattle.masks.specs.Loops.{mask-none, mask-digit, mask-false, mask-short}
-use Rattle.masks.specs.Floods.{flood, flood-one}
+use Rattle.masks.proofs.Loops.{mask-none, mask-digit, mask-false, mask-short}
+use Rattle.masks.specs.Floods.{flood}
+use Rattle.masks.proofs.Floods.{flood-one}
 use Rattle.masks.specs.Sets.{get_d_zeros}
 
 -- a position v of a mask x, where t

@@ -9,10 +9,14 @@ use Rattle.std.specs.Int.Bits.{bit_and, bit_or}
 use Rattle.std.proofs.lemmas.Bool.{not-false}
 use Rattle.limits.specs.Limits.{most_fields, list_places}
 use Rattle.masks.specs.Tests.{never, not_so, bool_cases, eq_cases, and_l, and_r, and-by, or_l, or_r, or_at}
-use Rattle.masks.specs.Bits.{bit, bit_of-zero, bit_ext, bit-some, bit_bound, Within}
-use Rattle.masks.specs.Words.{bit-and, bit-or, bit-one, clear, clear_within, clear-same, clear-other}
-use Rattle.masks.specs.Sets.{has, has_ext, ◌⊆◌, ⊆_mask, only, has-only, length-only, count}
-use Rattle.masks.specs.Settings.{empty, empty-at, empty-by, empty-not}
+use Rattle.masks.specs.Bits.{bit, Within}
+use Rattle.masks.proofs.Bits.{bit_of-zero, bit_ext, bit-some, bit_bound}
+use Rattle.masks.specs.Words.{clear}
+use Rattle.masks.proofs.Words.{bit-and, bit-or, bit-one, clear_within, clear-same, clear-other}
+use Rattle.masks.specs.Sets.{has, ◌⊆◌, only, length-only, count}
+use Rattle.masks.proofs.Sets.{has_ext, ⊆_mask, has-only}
+use Rattle.masks.specs.Settings.{empty}
+use Rattle.masks.proofs.Settings.{empty-at, empty-by, empty-not}
 use Rattle.removal_list.specs.Count.{Small}
 use Rattle.removal_list.specs.Moved.{Moved, moved_none, moved_then, without, has-without, length_without}
 use Rattle.pruning.specs.Shrunk.{or-within, one-within, small_⊆, Shrunk, shrunk-none, shrunk-then}

@@ -2,7 +2,8 @@
 use Rattle.std.specs.Prelude.{List, ℕ, ◌^◌, ◌≤◌, ◌<◌}
 use Rattle.std.proofs.Common.{lt_of_le_of_lt, lt_of_lt_of_le, pow_mono}
 use Rattle.limits.specs.Limits.{most_fields}
-use Rattle.masks.specs.Bits.{Within, within-le}
+use Rattle.masks.specs.Bits.{Within}
+use Rattle.masks.proofs.Bits.{within-le}
 use Rattle.masks.specs.Masks.{mask_of-lt}
 use Rattle.consistency.specs.Problem.{all_fields}
 use Rattle.network.specs.Tables.{rule_problem}

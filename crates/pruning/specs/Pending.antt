@@ -7,10 +7,12 @@ use Rattle.std.proofs.Math.Bool.{true, and-true, and-false}
 use Rattle.std.proofs.Math.ListN.{get_or}
 use Rattle.limits.specs.Limits.{most_fields, most_settings}
 use Rattle.masks.specs.Tests.{never, not_so, bool_cases, eq_cases}
-use Rattle.masks.specs.Bits.{bit_bound}
+use Rattle.masks.proofs.Bits.{bit_bound}
 use Rattle.masks.specs.Masks.{digit}
-use Rattle.masks.specs.Sets.{has, ◌⊆◌, ⊆_trans, ⊆_antisymm, has-only}
-use Rattle.masks.specs.Settings.{lose, lose_⊆, lose-by, lose-at}
+use Rattle.masks.specs.Sets.{has, ◌⊆◌, ⊆_trans}
+use Rattle.masks.proofs.Sets.{⊆_antisymm, has-only}
+use Rattle.masks.specs.Settings.{lose}
+use Rattle.masks.proofs.Settings.{lose_⊆, lose-by, lose-at}
 use Rattle.counter.specs.Counts.{count_at, Lowered, other-count, only-towards}
 use Rattle.removal_list.specs.Count.{Small}
 use Rattle.removal_list.specs.Moved.{number_of, number_same, Moved}

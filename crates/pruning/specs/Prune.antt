@@ -7,11 +7,13 @@ use Rattle.std.specs.Int.Bits.{bit_or}
 use Rattle.std.proofs.lemmas.Bool.{eqb-false}
 use Rattle.limits.specs.Limits.{most_fields, most_settings, counts_words, counter_words, list_places}
 use Rattle.masks.specs.Tests.{never, not_so, bool_cases, eq_cases, and_l, and_r, and-by}
-use Rattle.masks.specs.Bits.{bit, bit_of-zero, Within}
-use Rattle.masks.specs.Words.{bit-one}
+use Rattle.masks.specs.Bits.{bit, Within}
+use Rattle.masks.proofs.Bits.{bit_of-zero}
+use Rattle.masks.proofs.Words.{bit-one}
 use Rattle.masks.specs.Masks.{digit}
 use Rattle.masks.specs.Sets.{has, ◌⊆◌, count}
-use Rattle.masks.specs.Settings.{lose, lose_⊆, length-lose, empty, empty-at, empty-by}
+use Rattle.masks.specs.Settings.{lose, length-lose, empty}
+use Rattle.masks.proofs.Settings.{lose_⊆, empty-at, empty-by}
 use Rattle.counter.specs.Counts.{count_at, OnlyTowards, Lowered, other-count, only-towards}
 use Rattle.removal_list.specs.Count.{Small}
 use Rattle.removal_list.specs.Moved.{number_of, Moved, moved_none, moved_then}

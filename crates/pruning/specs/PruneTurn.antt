@@ -9,7 +9,7 @@ use Rattle.std.proofs.Math.ListN.{get_or}
 use Rattle.limits.specs.Limits.{most_fields, most_settings, list_places}
 use Rattle.masks.specs.Tests.{and_l, and_r, and-by}
 use Rattle.masks.specs.Bits.{bit}
-use Rattle.masks.specs.Words.{bit-and}
+use Rattle.masks.proofs.Words.{bit-and}
 use Rattle.masks.specs.Sets.{has, count}
 use Rattle.counter.specs.Counts.{Lowered}
 use Rattle.removal_list.specs.Count.{Small}

@@ -3,7 +3,8 @@ use Rattle.std.specs.Prelude.{◌≡◌, Bool, true, ◌&&◌, List, ℕ, ◌+�
 use Rattle.std.proofs.Common.{◌∙◌}
 use Rattle.limits.specs.Limits.{most_fields, most_settings, counter_words, support_words}
 use Rattle.masks.specs.Tests.{iff_eq, and_l, and_r, and-by}
-use Rattle.masks.specs.Bits.{bit, bit_bound}
+use Rattle.masks.specs.Bits.{bit}
+use Rattle.masks.proofs.Bits.{bit_bound}
 use Rattle.masks.specs.Sets.{has, ◌⊆◌}
 use Rattle.counter.specs.Counts.{count_at}
 use Rattle.removal_list.specs.Count.{Small}

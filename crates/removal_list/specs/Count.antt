@@ -6,11 +6,14 @@ use Rattle.std.proofs.Math.Dec.{eqb-suc-suc}
 use Rattle.std.proofs.lemmas.Bool.{eqb-false}
 use Rattle.limits.specs.Limits.{most_settings}
 use Rattle.masks.specs.Tests.{never, bool_cases}
-use Rattle.masks.specs.Bits.{bit, bit-zero, bit-suc, bit_of-zero, bit_ext}
+use Rattle.masks.specs.Bits.{bit, bit-zero, bit-suc}
+use Rattle.masks.proofs.Bits.{bit_of-zero, bit_ext}
 use Rattle.masks.specs.Masks.{count_in, count_bits}
-use Rattle.masks.specs.Words.{clear, bit-clear, clear-same, clear-other}
+use Rattle.masks.specs.Words.{clear}
+use Rattle.masks.proofs.Words.{bit-clear, clear-same, clear-other}
 use Rattle.masks.specs.Sets.{has, count}
-use Rattle.masks.specs.Settings.{lose, lose-set}
+use Rattle.masks.specs.Settings.{lose}
+use Rattle.masks.proofs.Settings.{lose-set}
 
 -- masks of settings
 abbrev pub Small : List ℕ → Type 0

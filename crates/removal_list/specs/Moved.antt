@@ -4,10 +4,14 @@ use Rattle.std.proofs.Common.{sym, ap, ◌∙◌, inl, inr, ⊎_elim, arith, len
 use Rattle.std.proofs.Math.Bool.{and-true, and-false}
 use Rattle.limits.specs.Limits.{most_settings}
 use Rattle.masks.specs.Tests.{never, not_so, bool_cases, eq_cases}
-use Rattle.masks.specs.Bits.{bit, bit_of-zero}
-use Rattle.masks.specs.Words.{clear, bit-clear}
-use Rattle.masks.specs.Sets.{has, has_ext, ◌⊆◌, ⊆_refl, ⊆_trans, only, has-only, length-only, count}
-use Rattle.masks.specs.Settings.{lose, length-lose, lose_⊆, lose-by, lose-at}
+use Rattle.masks.specs.Bits.{bit}
+use Rattle.masks.proofs.Bits.{bit_of-zero}
+use Rattle.masks.specs.Words.{clear}
+use Rattle.masks.proofs.Words.{bit-clear}
+use Rattle.masks.specs.Sets.{has, ◌⊆◌, ⊆_refl, ⊆_trans, only, length-only, count}
+use Rattle.masks.proofs.Sets.{has_ext, has-only}
+use Rattle.masks.specs.Settings.{lose, length-lose}
+use Rattle.masks.proofs.Settings.{lose_⊆, lose-by, lose-at}
 use Rattle.removal_list.specs.Count.{count-lose}
 
 -- the number of position b of field j

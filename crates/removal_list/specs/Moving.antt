@@ -4,10 +4,12 @@ use Rattle.std.proofs.Math.Path.{refl}
 use Rattle.std.proofs.Common.{sym, ap, ◌∙◌, arith}
 use Rattle.limits.specs.Limits.{most_settings}
 use Rattle.masks.specs.Tests.{never}
-use Rattle.masks.specs.Bits.{bit, bit_bound, Within}
-use Rattle.masks.specs.Words.{clear, clear_within, clear-same}
+use Rattle.masks.specs.Bits.{bit, Within}
+use Rattle.masks.proofs.Bits.{bit_bound}
+use Rattle.masks.specs.Words.{clear}
+use Rattle.masks.proofs.Words.{clear_within, clear-same}
 use Rattle.masks.specs.Sets.{has, count}
-use Rattle.masks.specs.Settings.{lose-set, lose-by}
+use Rattle.masks.proofs.Settings.{lose-set, lose-by}
 use Rattle.removal_list.specs.Count.{Small, count-lose}
 use Rattle.removal_list.specs.Moved.{number_of, Moved, moved_none, moved_then, moved-one, without, without-none, without-lose}
 

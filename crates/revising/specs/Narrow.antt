@@ -5,8 +5,10 @@ use Rattle.std.specs.Int.Bits.{bit_or, or_zero_r}
 use Rattle.std.proofs.lemmas.Bool.{not-true}
 use Rattle.limits.specs.Limits.{most_fields, most_triples}
 use Rattle.masks.specs.Tests.{never, not_so, eq_cases, or_at}
-use Rattle.masks.specs.Bits.{bit, bit_of-zero, Within}
-use Rattle.masks.specs.Words.{bit-or, clear, clear-other, clear_within, clear-lt}
+use Rattle.masks.specs.Bits.{bit, Within}
+use Rattle.masks.proofs.Bits.{bit_of-zero}
+use Rattle.masks.specs.Words.{clear}
+use Rattle.masks.proofs.Words.{bit-or, clear-other, clear_within, clear-lt}
 use Rattle.masks.specs.Sets.{◌⊆◌, count}
 use Rattle.removal_list.specs.Moved.{Moved, moved_none, moved_then}
 use Rattle.consistency.specs.Problem.{has_field, Problem, triple_at}

@@ -5,9 +5,12 @@ use Rattle.std.proofs.Math.Nat.{lt_of_le_of_lt}
 use Rattle.std.specs.Int.Bits.{bit_or, or_zero_r}
 use Rattle.limits.specs.Limits.{most_fields, most_triples, list_places}
 use Rattle.masks.specs.Tests.{never, not_so, and_r, or_at}
-use Rattle.masks.specs.Bits.{bit, bit_of-zero, bit_ext, Within, within-le}
-use Rattle.masks.specs.Masks.{mask_of, mask_of_in, mask_of-lt}
-use Rattle.masks.specs.Words.{bit-or, clear}
+use Rattle.masks.specs.Bits.{bit, Within}
+use Rattle.masks.proofs.Bits.{bit_of-zero, bit_ext, within-le}
+use Rattle.masks.specs.Masks.{mask_of, mask_of-lt}
+use Rattle.masks.proofs.Masks.{mask_of_in}
+use Rattle.masks.specs.Words.{clear}
+use Rattle.masks.proofs.Words.{bit-or}
 use Rattle.masks.specs.Sets.{count}
 use Rattle.removal_list.specs.Count.{Small}
 use Rattle.consistency.specs.Problem.{Triple, has_field, Problem, triple_at, all_fields, all_fields_bound}

@@ -12,9 +12,11 @@ use Rattle.std.proofs.Math.Seq.{get_or-set_same, get_or-set_other}
 use borrow.Author.Tests.{eqb-true, eq-eqb, lt-ltb, not-true}
 use Rattle.limits.specs.Limits.{most_fields, most_settings}
 use Rattle.masks.specs.Tests.{never, not_so, bool_cases, iff_eq, and_l, and_r, and-by}
-use Rattle.masks.specs.Bits.{bit, bit_of-zero, bit_bound}
-use Rattle.masks.specs.Words.{bit-and, bit-or, bit-xor, bit-one}
-use Rattle.masks.specs.Sets.{has, has_ext, length-only}
+use Rattle.masks.specs.Bits.{bit}
+use Rattle.masks.proofs.Bits.{bit_of-zero, bit_bound}
+use Rattle.masks.proofs.Words.{bit-and, bit-or, bit-xor, bit-one}
+use Rattle.masks.specs.Sets.{has, length-only}
+use Rattle.masks.proofs.Sets.{has_ext}
 use Rattle.consistency.specs.Problem.{Triple, has_field, has_first, has-second, has-third, field-cases, Problem}
 use Rattle.consistency.specs.Triples.{Together, together}
 use Rattle.consistency.proofs.Triples.{together_at, together-by}

@@ -4,8 +4,10 @@ use Rattle.std.proofs.Common.{sym, ap, ◌∙◌, ⊎_elim, eqb-true, eq-eqb}
 use Rattle.std.specs.Int.Bits.{bit_and, bit_or}
 use Rattle.limits.specs.Limits.{most_settings}
 use Rattle.masks.specs.Tests.{never, eq_cases, and_l, and_r, and-by, or_l, or_r, or_at}
-use Rattle.masks.specs.Bits.{bit, bit_of-zero, bit-some}
-use Rattle.masks.specs.Words.{bit-and, bit-or, bit-one, clear, clear-other}
+use Rattle.masks.specs.Bits.{bit}
+use Rattle.masks.proofs.Bits.{bit_of-zero, bit-some}
+use Rattle.masks.specs.Words.{clear}
+use Rattle.masks.proofs.Words.{bit-and, bit-or, bit-one, clear-other}
 
 -- the mask has the position it was made of
 pub or-one-same : (m v : ℕ) → bit (bit_or m (2 ^ v)) v ≡ true

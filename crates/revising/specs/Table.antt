@@ -6,8 +6,10 @@ use Rattle.std.proofs.Math.Bool.{true, false}
 use Rattle.std.specs.Int.Bits.{bit_and, bit_or}
 use Rattle.limits.specs.Limits.{most_fields, most_settings}
 use Rattle.masks.specs.Tests.{never, eq_cases, and_l, and_r, and-by, or_at}
-use Rattle.masks.specs.Bits.{bit, bit_of-zero, Within, within-le}
-use Rattle.masks.specs.Words.{bit-and, bit-or, clear}
+use Rattle.masks.specs.Bits.{bit, Within}
+use Rattle.masks.proofs.Bits.{bit_of-zero, within-le}
+use Rattle.masks.specs.Words.{clear}
+use Rattle.masks.proofs.Words.{bit-and, bit-or}
 use Rattle.masks.specs.Sets.{has}
 use Rattle.consistency.specs.Problem.{has_field, Problem}
 use Rattle.consistency.specs.Triples.{Free}

@@ -4,7 +4,8 @@ use Rattle.std.proofs.Common.{sym, ap, ◌∙◌, ⊎_elim, true≢false, arith}
 use Rattle.std.proofs.lemmas.Bool.{not-true}
 use Rattle.limits.specs.Limits.{most_fields, counter_words, list_places}
 use Rattle.masks.specs.Tests.{never, not_so, bool_cases}
-use Rattle.masks.specs.Bits.{bit, bit_of-zero, Within}
+use Rattle.masks.specs.Bits.{bit, Within}
+use Rattle.masks.proofs.Bits.{bit_of-zero}
 use Rattle.masks.specs.Sets.{has-mask, ◌⊆◌, count}
 use Rattle.masks.specs.Settings.{empty}
 use Rattle.removal_list.specs.Count.{Small}

@@ -9,9 +9,11 @@ use Rattle.std.proofs.Math.ListN.{get_or, get_or-eq_default}
 use borrow.Author.Tests.{eqb-true, eq-eqb, ltb-true, ltb-false, lt-ltb, le-ltb, leb-true, leb-false, not-true}
 use Rattle.limits.specs.Limits.{most_fields, most_events}
 use Rattle.masks.specs.Tests.{never, not_so, bool_cases, iff_eq, and_l, and_r, and-by, all_below, all_below-at, all_below-by}
-use Rattle.masks.specs.Bits.{bit, bit_of-zero, bit_ext, bit_bound, lt_of_bits, bit_nonzero}
-use Rattle.masks.specs.Masks.{keep_bits, bit-keep_bits, some_bit-at, some_bit-by}
-use Rattle.masks.specs.Words.{bit-and-not}
+use Rattle.masks.specs.Bits.{bit}
+use Rattle.masks.proofs.Bits.{bit_of-zero, bit_ext, bit_bound, lt_of_bits, bit_nonzero}
+use Rattle.masks.specs.Masks.{keep_bits}
+use Rattle.masks.proofs.Masks.{bit-keep_bits, some_bit-at, some_bit-by}
+use Rattle.masks.proofs.Words.{bit-and-not}
 use Rattle.masks.specs.Sets.{has}
 use Rattle.accepted.specs.declared.outline.Outline.{Outline}
 use Rattle.ledger.specs.declared.Event.{Event}

@@ -7,9 +7,12 @@ use Rattle.std.specs.Int.Bits.{bit_and}
 use Rattle.std.proofs.lemmas.Nat.{and_le_r}
 use Rattle.limits.specs.Limits.{most_fields}
 use Rattle.masks.specs.Tests.{never, not_so, eq_cases, and_l, and_r, and-by}
-use Rattle.masks.specs.Bits.{bit, bit_of-zero, bit_ext, bit_nonzero, bit-some}
-use Rattle.masks.specs.Masks.{keep_bits, bit-keep_bits, keep_bits_cong, some_bit, some_bit-at, some_bit-by}
-use Rattle.masks.specs.Words.{bit-and, bit-and-not, clear, bit-clear, clear-other, Lowest}
+use Rattle.masks.specs.Bits.{bit}
+use Rattle.masks.proofs.Bits.{bit_of-zero, bit_ext, bit_nonzero, bit-some}
+use Rattle.masks.specs.Masks.{keep_bits, keep_bits_cong, some_bit}
+use Rattle.masks.proofs.Masks.{bit-keep_bits, some_bit-at, some_bit-by}
+use Rattle.masks.specs.Words.{clear, Lowest}
+use Rattle.masks.proofs.Words.{bit-and, bit-and-not, bit-clear, clear-other}
 use Rattle.masks.specs.Sets.{has, pad}
 use Rattle.sheet.specs.Sources.{Accepted}
 use Rattle.accepted.specs.declared.outline.Outline.{Outline}

@@ -9,7 +9,8 @@ use Prim.Native.Nat.{ℕ, zero, suc, ◌-◌, ◌/◌, ◌%◌, ◌≤◌, ◌<�
 use Rattle.std.proofs.Math.Arith.{half_le}
 use Rattle.limits.specs.Limits.{most_events}
 use Rattle.masks.specs.Tests.{never, iff_eq, or_l, or_r, or_at}
-use Rattle.masks.specs.Bits.{bit, bit-zero, bit-suc, bit_of-zero}
+use Rattle.masks.specs.Bits.{bit, bit-zero, bit-suc}
+use Rattle.masks.proofs.Bits.{bit_of-zero}
 use Rattle.masks.specs.Sets.{has}
 use Rattle.masks.specs.Pick.{pick}
 use Rattle.ledger.specs.declared.Event.{Event}

@@ -11,8 +11,9 @@ use Rattle.std.proofs.Math.ListN.{get_or, get_or-eq_default}
 use borrow.Author.Tests.{not-true, ltb-true, ltb-false}
 use Rattle.limits.specs.Limits.{most_fields, most_settings}
 use Rattle.masks.specs.Tests.{never, not_so, bool_cases, and_l, and_r, and-by}
-use Rattle.masks.specs.Bits.{bit, bit_of-zero, bit_ext, Within}
-use Rattle.masks.specs.Words.{bit-and-not}
+use Rattle.masks.specs.Bits.{bit, Within}
+use Rattle.masks.proofs.Bits.{bit_of-zero, bit_ext}
+use Rattle.masks.proofs.Words.{bit-and-not}
 use Rattle.masks.specs.Sets.{has, ◌⊆◌}
 use Rattle.removal_list.specs.Moved.{number_of}
 use Rattle.network.specs.Stored.{Stored, words_of, words_of-at}

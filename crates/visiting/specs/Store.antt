@@ -11,8 +11,9 @@ use Rattle.std.proofs.Math.Pow.{pow-lt}
 use borrow.Author.Tests.{eqb-true, eq-eqb, ltb-true, ltb-false}
 use Rattle.limits.specs.Limits.{most_fields, most_settings, memory_words}
 use Rattle.masks.specs.Tests.{never, bool_cases, eq_cases, or_r, or_at}
-use Rattle.masks.specs.Bits.{bit, bit_of-zero, bit_bound, Within}
-use Rattle.masks.specs.Words.{bit-or, bit-one}
+use Rattle.masks.specs.Bits.{bit, Within}
+use Rattle.masks.proofs.Bits.{bit_of-zero, bit_bound}
+use Rattle.masks.proofs.Words.{bit-or, bit-one}
 use Rattle.masks.specs.Sets.{has, ◌⊆◌, ⊆_refl, ⊆_trans, get_d_zeros}
 use Rattle.consistency.specs.Problem.{Problem, all_fields}
 use Rattle.consistency.specs.Passing.{passes_over}

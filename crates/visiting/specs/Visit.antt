@@ -5,8 +5,10 @@ use Rattle.std.proofs.Common.{sym, ap, ◌∙◌, ⊎_elim, true≢false}
 use Rattle.std.proofs.Math.Bool.{true, false}
 use Rattle.std.specs.Int.Bits.{bit_and, bit_or}
 use Rattle.masks.specs.Tests.{never, not_so, bool_cases, and_r, and-by, or_l, or_r}
-use Rattle.masks.specs.Bits.{bit, bit_of-zero, Within}
-use Rattle.masks.specs.Words.{bit-and, bit-or, clear, clear_within, clear-gone}
+use Rattle.masks.specs.Bits.{bit, Within}
+use Rattle.masks.proofs.Bits.{bit_of-zero}
+use Rattle.masks.specs.Words.{clear}
+use Rattle.masks.proofs.Words.{bit-and, bit-or, clear_within, clear-gone}
 use Rattle.masks.specs.Sets.{has}
 use Rattle.consistency.specs.Problem.{Problem, all_fields}
 use Rattle.consistency.specs.Passing.{passes_over}

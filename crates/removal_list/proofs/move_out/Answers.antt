@@ -1,5 +1,5 @@
 use native.Mathlib.Omega.{arith}
-use Rattle.masks.specs.Words.{clear-lt}
+use Rattle.masks.proofs.Words.{clear-lt}
 use Rattle.removal_list.specs.Moving.{moving_start, moving_room, moving_turn, moving_end}
 use Rattle.removal_list.proofs.move_out.Goals as goal
 

@@ -1,6 +1,6 @@
 -- A word of 32 bits has no further bit.
 use mathlib.Core.Path.{sym}
-use Rattle.masks.specs.Bits.{bit_high}
+use Rattle.masks.proofs.Bits.{bit_high}
 use Rattle.accepted.proofs.kinds.has.Goals as goal
 
 pub returns-else-v-lt32 : goal.returns-else-v-lt32

@@ -1,7 +1,8 @@
 -- `close` makes the support sets and counts, and closes by them and the triple rules.
 use mathlib.Core.Bool.{true, true≢false}
 use Rattle.limits.specs.Limits.{most_fields}
-use Rattle.masks.specs.Masks.{mask_of-lt, mask_of_in}
+use Rattle.masks.specs.Masks.{mask_of-lt}
+use Rattle.masks.proofs.Masks.{mask_of_in}
 use Rattle.removal_list.specs.Moved.{moved_then}
 use Rattle.consistency.specs.Problem.{all_fields}
 use Rattle.network.specs.TripleTable.{problem_of}

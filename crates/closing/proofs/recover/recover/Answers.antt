@@ -1,7 +1,7 @@
 use mathlib.Core.Path.{◌∙◌}
 use Rattle.limits.specs.Limits.{most_fields}
-use Rattle.masks.specs.Bits.{bit_bound}
-use Rattle.masks.specs.Words.{clear-lt, clear_within}
+use Rattle.masks.proofs.Bits.{bit_bound}
+use Rattle.masks.proofs.Words.{clear-lt, clear_within}
 use Rattle.closing.specs.Recover.{recovered_turn, recovered_end}
 use Rattle.closing.proofs.recover.recover.Goals as goal
 

@@ -1,6 +1,6 @@
 use mathlib.Core.Path.{sym}
 use native.Mathlib.Omega.{arith}
-use Rattle.masks.specs.Words.{clear-lt}
+use Rattle.masks.proofs.Words.{clear-lt}
 use Rattle.engines.specs.PutBack.{back_none, back_all, back-others, changed-low, backing_start, backing_turn, backing_end}
 use Rattle.engines.proofs.queue.put_back.Goals as goal
 

@@ -1,6 +1,7 @@
 use mathlib.Core.Path.{refl, ap, ◌∙◌}
 use Prim.Native.Nat.{ℕ}
-use Rattle.masks.specs.Bits.{bit, bit_of-zero}
+use Rattle.masks.specs.Bits.{bit}
+use Rattle.masks.proofs.Bits.{bit_of-zero}
 use Rattle.closing.specs.Fields.{fields-small}
 use Rattle.visiting.specs.Store.{store-start}
 use Rattle.engines.specs.Engine.{kept-wiped, begun-engine, engine-none, engine-done}

@@ -1,7 +1,7 @@
 use mathlib.Core.Path.{refl, sym, ◌∙◌}
 use mathlib.Core.Bool.{true≢false}
 use borrow.Author.Rules.{rules}
-use Rattle.masks.specs.Words.{clear_within}
+use Rattle.masks.proofs.Words.{clear_within}
 use Rattle.network.specs.TripleTable.{problem_of}
 use Rattle.engines.specs.EngineAsks.{order-low, visit-asks, visit-selected, kept-asks}
 use Rattle.engines.specs.PutBack.{back-asks}

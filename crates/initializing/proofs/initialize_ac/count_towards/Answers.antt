@@ -1,8 +1,8 @@
 use mathlib.Core.Path.{◌∙◌}
 use native.Mathlib.Omega.{arith}
 use Rattle.limits.specs.Limits.{most_settings}
-use Rattle.masks.specs.Bits.{bit_bound}
-use Rattle.masks.specs.Words.{clear-lt}
+use Rattle.masks.proofs.Bits.{bit_bound}
+use Rattle.masks.proofs.Words.{clear-lt}
 use Rattle.pruning.specs.SupportSet.{set-has}
 use Rattle.initializing.specs.Count.{made-start, made-turn}
 use Rattle.initializing.proofs.initialize_ac.count_towards.Goals as goal

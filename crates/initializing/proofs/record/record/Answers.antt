@@ -2,8 +2,9 @@ use mathlib.Core.Path.{sym, ap, ◌∙◌}
 use native.Mathlib.Omega.{arith}
 use Rattle.limits.specs.Limits.{most_fields}
 use Rattle.masks.specs.Tests.{never}
-use Rattle.masks.specs.Bits.{bit, bit_bound}
-use Rattle.masks.specs.Words.{clear-lt}
+use Rattle.masks.specs.Bits.{bit}
+use Rattle.masks.proofs.Bits.{bit_bound}
+use Rattle.masks.proofs.Words.{clear-lt}
 use Rattle.initializing.specs.Record.{arcs_start, arcs_turn}
 use Rattle.initializing.proofs.record.record.Goals as goal
 

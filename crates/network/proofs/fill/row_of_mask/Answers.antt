@@ -2,7 +2,7 @@ use mathlib.Core.Path.{◌≡◌, sym, ◌∙◌}
 use native.Mathlib.Omega.{arith}
 use borrow.Author.Rules.{rules}
 use Rattle.limits.specs.Limits.{most_settings}
-use Rattle.masks.specs.Loops.{mask-none, mask-more, mask_skip}
+use Rattle.masks.proofs.Loops.{mask-none, mask-more, mask_skip}
 use Rattle.masks.specs.Pick.{pick}
 use Rattle.network.proofs.fill.row_of_mask.Goals as goal
 

@@ -1,7 +1,7 @@
 use mathlib.Core.Path.{◌≡◌, sym, ◌∙◌}
 use native.Mathlib.Omega.{arith}
 use borrow.Author.Rules.{rules}
-use Rattle.masks.specs.Loops.{mask-none, mask-more, mask_skip}
+use Rattle.masks.proofs.Loops.{mask-none, mask-more, mask_skip}
 use Rattle.network.specs.RuleFields.{field-i, field-j, counts-few, row_is, allows-is}
 use Rattle.network.specs.RuleRows.{row-mask}
 use Rattle.network.proofs.fill.row_of_rule.Goals as goal

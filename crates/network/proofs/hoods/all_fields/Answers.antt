@@ -3,7 +3,7 @@ use mathlib.Core.Path.{sym}
 use native.Mathlib.Omega.{arith}
 use lib.Pow.{pow_pos}
 use Rattle.masks.specs.Masks.{mask_of_all}
-use Rattle.masks.specs.Words.{one_shl}
+use Rattle.masks.proofs.Words.{one_shl}
 use Rattle.network.proofs.hoods.all_fields.Goals as goal
 
 pub overflow_sub-result : goal.overflow_sub-result

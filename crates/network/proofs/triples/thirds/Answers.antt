@@ -1,7 +1,7 @@
 use mathlib.Core.Path.{◌≡◌, sym, ◌∙◌}
 use native.Mathlib.Omega.{arith}
 use borrow.Author.Rules.{rules}
-use Rattle.masks.specs.Loops.{mask-none, mask-more, mask_skip}
+use Rattle.masks.proofs.Loops.{mask-none, mask-more, mask_skip}
 use Rattle.network.specs.Drafts.{draft_is, field-few}
 use Rattle.network.proofs.triples.thirds.Goals as goal
 

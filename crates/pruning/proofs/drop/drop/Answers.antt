@@ -1,7 +1,7 @@
 use mathlib.Core.Path.{refl}
 use Rattle.limits.specs.Limits.{most_fields}
-use Rattle.masks.specs.Bits.{bit_bound}
-use Rattle.masks.specs.Words.{clear-lt}
+use Rattle.masks.proofs.Bits.{bit_bound}
+use Rattle.masks.proofs.Words.{clear-lt}
 use Rattle.pruning.specs.Drop.{dropping_start, dropping_end, dropping_skip, dropping_turn, dropping_none, move_asks}
 use Rattle.pruning.proofs.drop.drop.Goals as goal
 

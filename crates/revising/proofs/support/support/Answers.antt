@@ -1,8 +1,8 @@
 use native.Mathlib.Omega.{arith}
 use borrow.Author.Rules.{rules}
 use Rattle.limits.specs.Limits.{most_settings}
-use Rattle.masks.specs.Bits.{bit_bound}
-use Rattle.masks.specs.Words.{clear-lt, clear_within}
+use Rattle.masks.proofs.Bits.{bit_bound}
+use Rattle.masks.proofs.Words.{clear-lt, clear_within}
 use Rattle.revising.specs.Support.{supported3_start, supported3_none, supported3_some}
 use Rattle.revising.proofs.support.support.Goals as goal
 

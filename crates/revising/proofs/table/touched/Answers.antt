@@ -1,6 +1,6 @@
 use native.Mathlib.Omega.{arith}
 use borrow.Author.Rules.{rules}
-use Rattle.masks.specs.Words.{clear-lt, clear_within}
+use Rattle.masks.proofs.Words.{clear-lt, clear_within}
 use Rattle.revising.specs.Table.{touching_none, touching_start, touching_turn}
 use Rattle.revising.proofs.table.touched.Goals as goal
 

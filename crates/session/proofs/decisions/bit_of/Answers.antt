@@ -1,6 +1,6 @@
 use mathlib.Core.Path.{refl, sym}
 use Rattle.masks.specs.Tests.{never}
-use Rattle.masks.specs.Bits.{bit_high}
+use Rattle.masks.proofs.Bits.{bit_high}
 use Rattle.session.proofs.decisions.bit_of.Goals as goal
 
 pub returns-then-v-ge32 : goal.returns-then-v-ge32

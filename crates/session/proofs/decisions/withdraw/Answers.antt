@@ -1,4 +1,4 @@
-use Rattle.masks.specs.Settings.{lose-set}
+use Rattle.masks.proofs.Settings.{lose-set}
 use Rattle.session.proofs.decisions.withdraw.Goals as goal
 
 pub returns-then-strike : goal.returns-then-strike

@@ -4,7 +4,8 @@ use mathlib.Core.Logic.{◌↔◌}
 use mathlib.Core.Bool.{Bool, true, false, true≢false}
 use native.Mathlib.Omega.{arith}
 use Rattle.masks.specs.Tests.{never}
-use Rattle.masks.specs.Restrict.{restrict, length-restrict}
+use Rattle.masks.specs.Restrict.{restrict}
+use Rattle.masks.proofs.Restrict.{length-restrict}
 use Rattle.closing.specs.Asks.{place_bound, tested-masks}
 use Rattle.visiting.specs.Store.{remembered_passes, remembered_now, known_added, memory-same, store-add}
 use Rattle.visiting.proofs.store.check.Goals as goal

@@ -4,7 +4,7 @@ use native.Mathlib.Omega.{arith}
 use borrow.Author.Rules.{rules}
 use lib.ListN.{length}
 use Rattle.limits.specs.Limits.{most_fields}
-use Rattle.masks.specs.Restrict.{restrict-mask}
+use Rattle.masks.proofs.Restrict.{restrict-mask}
 use Rattle.network.specs.Stored.{words_of-at, stored-start, stored-turn}
 use Rattle.visiting.proofs.store.remember.Goals as goal
 

@@ -3,7 +3,7 @@ use mathlib.Core.Bool.{true, true≢false}
 use native.Mathlib.Omega.{arith}
 use lib.Bits.{and_le_l}
 use lib.ListN.{get_or}
-use Rattle.masks.specs.Words.{clear-lt}
+use Rattle.masks.proofs.Words.{clear-lt}
 use Rattle.closing.specs.Asks.{asks-shrunk}
 use Rattle.visiting.specs.declared.store.CheckResult.{CheckResult}
 use Rattle.visiting.specs.declared.store.CheckResult.TheVariants.{Recalled, Passed, Failed}
