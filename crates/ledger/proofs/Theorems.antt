@@ -14,7 +14,7 @@ use Rattle.masks.specs.Masks.{keep_bits}
 use Rattle.masks.proofs.Masks.{bit-keep_bits, some_bit-at, some_bit-by}
 use Rattle.masks.specs.Sets.{has}
 use Rattle.masks.specs.Pick.{pick}
-use Rattle.consistency.specs.SetUps as setUps
+use Rattle.consistency.proofs.SetUps as setUps
 use Rattle.consistency.specs.Problem.{length-triples, listed-triple, Problem, triple_at, SetUp}
 use Rattle.consistency.specs.Neighbourhood.{neighbourhood}
 use Rattle.sheet.specs.Sources.{Accepted, numbers, of_bytes}
