@@ -55,7 +55,8 @@ module _ (n : ℕ) (joined forward turned : List ℕ) (wired : Wired n joined fo
   b : ℕ
   b = (head_setting P W S D1 L1 t1 C1 s a h changed spent D L t C p k).1
 
-  head_is : (b < most_settings) × (get_or L h 0 ≡ number_of (get_or L h 0 / most_settings) b) × (has D (get_or L h 0 / most_settings) b ≡ false)
+  head_is : (b < most_settings) × (get_or L h 0 ≡ number_of (get_or L h 0 / most_settings) b)
+      × (has D (get_or L h 0 / most_settings) b ≡ false)
       × (In P W (get_or L h 0 / most_settings))
   unfolding b
   head_is =
