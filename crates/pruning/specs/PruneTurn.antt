@@ -38,6 +38,10 @@ pub record EnoughLowered (D C S : List ℕ) (x j n : ℕ) (some : Bool) (none R 
   pub most : wide ≤ most_fields
   pub done : SetLowered D C S x j wide some none R
 
+pub enough_lowered : {D C S : List ℕ} {x j wide n : ℕ} {some : Bool} {none R : List ℕ} → SetLowered D C S x j wide some none R
+    → n ≤ wide → wide ≤ most_fields → EnoughLowered D C S x j n some none R
+enough_lowered {wide = wide} done enough most = record { wide = wide; enough = enough; most = most; done = done }
+
 module _ (n : ℕ) (joined forward turned : List ℕ) (wired : Wired n joined forward turned) (W : ℕ) (S D1 L1 : List ℕ) (t1 : ℕ) (C1 : List ℕ)
     (s : ℕ) (a : PruneAsks (rule_problem n joined forward turned) W S s D1 L1 t1 C1) (h changed spent : ℕ) (D L : List ℕ) (t : ℕ)
     (C : List ℕ)
