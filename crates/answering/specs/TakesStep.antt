@@ -23,7 +23,8 @@ use Rattle.ledger.specs.Laws.{SameLedger}
 use Rattle.ledger.proofs.Judging.{Clear, not_back, well_formed}
 use Rattle.session.specs.declared.Session.{Session}
 use Rattle.session.specs.View.{decisions_of, length-past, events-counted, past-latest, view, Sized}
-use Rattle.session.specs.Steps.{stepped, latest, RecordAsks, UndoAsks, StepAsks, view-step}
+use Rattle.session.specs.Steps.{stepped, latest, RecordAsks, UndoAsks, StepAsks}
+use Rattle.session.proofs.Shows.{view-step}
 
 module _ (xs : List ℕ) (a : Accepted xs) where
   abbrev o : Outline

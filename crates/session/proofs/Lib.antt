@@ -1,0 +1,2 @@
+-- What holds of the session's steps.
+pub mod Shows
