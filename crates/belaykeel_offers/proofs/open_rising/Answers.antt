@@ -13,4 +13,4 @@ pub returns : goal.returns
 returns c =
     let a = c.args in
     opening-is a.sheet.now a.n _ _ _ _ _ _ c.all_fields.ensures c.fresh.ensures
-    (length-replicate {A = ℕ} rows_words 0) (length-replicate {A = ℕ} memory_words 0) c.before.before.«open».ensures
+    (length-replicate {A = ℕ} rows_words 0) (length-replicate {A = ℕ} memory_words 0) c.open-out.ensures

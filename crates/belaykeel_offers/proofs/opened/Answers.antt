@@ -32,7 +32,7 @@ open_rising-requires c =
     let r = c.read-found in
     let z = c.if-found-ne0.false in
     let a = front-accepted c.args.sheet.now c.args.numbers.now c.requires.0 _ _ r.ensures z in
-    let l = (facts (take r.result.length r.new.1.0) a).fields-few in
+    let l = (facts (take r.result.length r.new.output) a).fields-few in
     rw c.fields-n.ensures l
 
 pub returns : goal.returns

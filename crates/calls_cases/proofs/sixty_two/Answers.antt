@@ -1,7 +1,0 @@
-use Rattle.calls_cases.proofs.sixty_two.Goals as goal
-
-pub loop-k-init : goal.loop-k-init
-loop-k-init c = tt
-
-pub loop-k-preserved : goal.loop-k-preserved
-loop-k-preserved c = tt
