@@ -71,6 +71,7 @@ fn put_numbers(sheet: &[u8], output: &mut [u32])
 }
 
 // Reads a sheet's bytes to its list of numbers.
+#[tactic(auto, using(crate::proofs::Giving::giving))]
 pub fn read(sheet: &[u8], output: &mut [u32]) -> Answer
     ensures { Gives (reading sheet.now output.old) result output.new }
 {

@@ -70,6 +70,7 @@ fn put_bytes(numbers: &[u32], output: &mut [u8])
 }
 
 // Writes a list of numbers as a sheet's bytes.
+#[tactic(auto, using(crate::proofs::Giving::giving))]
 pub fn write(numbers: &[u32], output: &mut [u8]) -> Answer
     ensures { Gives (writing numbers.now output.old) result output.new }
 {

@@ -1,0 +1,2 @@
+-- What the check cites by itself.
+pub mod Giving
