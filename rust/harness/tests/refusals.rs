@@ -4,12 +4,12 @@
 use belaykeel::Refusal;
 use harness::repository::lines;
 
-/// The wrapper's name in capitals, with this mark between its words.
-fn name(refusal: Refusal, mark: &str) -> String {
+/// The wrapper's name in capitals, with `_` between its words.
+fn name(refusal: Refusal) -> String {
     let mut name = String::new();
     for letter in format!("{refusal:?}").chars() {
         if letter.is_uppercase() && !name.is_empty() {
-            name += mark;
+            name.push('_');
         }
         name.push(letter.to_ascii_uppercase());
     }
@@ -29,9 +29,9 @@ fn expected(line: fn(Refusal) -> String) -> Vec<String> {
 #[test]
 fn definitions_and_code() {
     let definitions = lines("crates/limits/specs/Refusals.antt", |line| line.contains(" = "));
-    assert_eq!(definitions, expected(|refusal| format!("{} = {}", name(refusal, "-"), refusal.number())));
+    assert_eq!(definitions, expected(|refusal| format!("{} = {}", name(refusal), refusal.number())));
     let code = lines("crates/limits/src/refusals.rt", |line| line.starts_with("pub const"));
-    let mut given = expected(|refusal| format!("pub const {}: u32 = {};", name(refusal, "_"), refusal.number()));
+    let mut given = expected(|refusal| format!("pub const {}: u32 = {};", name(refusal), refusal.number()));
     given.retain(|line| line != "pub const TOO_NARROW: u32 = 8;");
     assert_eq!(code, given);
 }
@@ -41,7 +41,7 @@ fn header_and_readme() {
     let header = lines("include/belaykeel.h", |line| line.starts_with("BELAYKEEL_") && line.contains(" = "));
     assert_eq!(header[0], "BELAYKEEL_ACCEPTED = 0,");
     let numbers: Vec<String> = header[1..=Refusal::ALL.len()].iter().map(|line| line.replacen(", /*", " /*", 1)).collect();
-    let line = |refusal| format!("BELAYKEEL_{} = {} /* {} */", name(refusal, "_"), refusal.number(), sentence(refusal));
+    let line = |refusal| format!("BELAYKEEL_{} = {} /* {} */", name(refusal), refusal.number(), sentence(refusal));
     assert_eq!(numbers, expected(line));
     let readme = lines("README.md", |line| line.starts_with("| "));
     for row in expected(|refusal| format!("| {} | {} |", refusal.number(), sentence(refusal))) {
