@@ -3,22 +3,18 @@
 use Rattle.std.specs.Prelude.{◌≡◌, refl, Bool, true, false, ◌&&◌, List, [], ◌∷◌, ℕ, zero, suc, ◌+◌, ◌-◌, ◌*◌, ◌<◌, ◌≤◌, ltb, eqb, length, take, drop}
 use Rattle.std.proofs.Common.{sym, ap, ◌∙◌, ⊎_elim, arith, take-take, take_all, length-take-le, ltb-true, ltb-false}
 use Rattle.masks.specs.Pick.{pick}
-use Rattle.limits.specs.Limits.{most_fields, most_numbers, offers_words}
+use Rattle.limits.specs.Limits.{most_fields, most_numbers}
 use Rattle.limits.specs.Refusals.{SURPLUS, OUT_OF_RANGE, OUT_OF_ORDER}
 use Rattle.groups.specs.Groups.{groups, number_at, last_group, groups-number, groups_nothing, groups-empty}
 use Rattle.sheet.specs.Sources.{Item, num, cut, ill, refusal_from, refusal, items_from, of_bytes}
 use Rattle.sheet.specs.Items.{from-num, from_cut, from-ill}
 use Rattle.grammar.specs.Grammar.{advance, start, no_counts}
-use Rattle.accepted.specs.Parts.{fields_of}
 use Rattle.accepted.specs.Theorems.{most-sheet-bytes}
 use Rattle.groups.specs.declared.groups.Number.{Number}
 use Rattle.groups.specs.declared.groups.Number.TheVariants.{Value, Ended, IllFormed}
 use Rattle.grammar.specs.declared.grammar.State.{State}
 use Rattle.grammar.specs.declared.grammar.State.TheVariants.{Wants, Complete, OutOfRange, OutOfOrder}
-use Rattle.session.specs.Steps.{fresh_session}
-use Rattle.answering.specs.Answer.{CallResult}
 use Rattle.belaykeel_offers.specs.Remaining.{Fits, some, fits-advance, low-none}
-use Rattle.belaykeel_offers.specs.Opening.{opening, opening-refused, list_of}
 
 -- ---- a number is decided by four bytes
 
@@ -126,23 +122,9 @@ first-bytes s k h = go (ltb k (length s)) refl
         (agree most_numbers s k 0 (omega arith) (omega arith))
     go false e = ap (λ (l : List ℕ). refusal (of_bytes l)) (take_all k s (ltb-false k (length s) e))
 
--- So open answers to the 32,768 bytes that the program reads as to the whole input.
+-- So open answers to the 32,768 bytes that the program reads as to the whole input: proofs/WholeInput.antt.
 abbrev pub input_bytes : ℕ
 input_bytes = 32768
 
 pub long_input : (s : List ℕ) → input_bytes < length s → refusal (of_bytes s) ≡ 0 → ⊥
 long_input s l z = omega (arith, most-sheet-bytes s z)
-
-pub later-bytes : (s before : List ℕ) → offers_words ≤ length before
-    → opening (take input_bytes s) (fields_of (list_of (take input_bytes s))) before ≡ opening s (fields_of (list_of s)) before
-later-bytes s before l = go (ltb input_bytes (length s)) refl
-  where
-    go : (t : Bool) → ltb input_bytes (length s) ≡ t
-        → opening (take input_bytes s) (fields_of (list_of (take input_bytes s))) before ≡ opening s (fields_of (list_of s)) before
-    go true e =
-        let r = long_input s (ltb-true input_bytes (length s) e) in
-        let q = first-bytes s input_bytes (omega arith) in
-        opening-refused (take input_bytes s) (fields_of (list_of (take input_bytes s))) before l (λ z. r (sym q ∙ z))
-        ∙ ap {B = CallResult} (λ (k : ℕ). record { number = k; session = fresh_session; offers = before }) q
-        ∙ sym (opening-refused s (fields_of (list_of s)) before l r)
-    go false e = ap (λ (x : List ℕ). opening x (fields_of (list_of x)) before) (take_all input_bytes s (ltb-false input_bytes (length s) e))

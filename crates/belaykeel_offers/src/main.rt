@@ -73,7 +73,7 @@ fn page(sheet: &[u8], output: &mut [u8]) -> usize
     text(&numbers[..count], answer.number, &offers, output)
 }
 
-// Room for what the program reads. What comes later decides nothing: `page-of-input` in specs/Page.antt.
+// Room for what the program reads. What comes later decides nothing: `page_of_input` in proofs/WholeInput.antt.
 fn input_room() -> [u8; INPUT_BYTES]
     ensures { input_bytes ≡ length result }
 {
