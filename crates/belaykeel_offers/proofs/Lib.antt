@@ -1,1 +1,3 @@
+-- What decides the page of an input.
+pub mod Later
 pub mod WholeInput

@@ -34,9 +34,9 @@ unfoldable computed : List ℕ → List ℕ
 unfolding page_of text lines line blank_each offered decimal digits refused_line result view past decisions_of listed list_in
     number causes judged first is_order no_engine space_short wiped offers_of start_set starts other_chosen step in_force same_decision
     occurrences sheet_problem pairs runs outline_of rule_start field_start tabulate items numbers refusal_from advance number_at groups
-    no_selection wiped_out offers stays is_selected passes_over none_empty neighbourhood fields_within widen closing supported supported_by partner
-    all_fields largest sweeps sweep pick some_empty empty cut pad same count only has count_bits count_in some_bit some_in keep_bits keep_in mask_of
-    bit some_below all_below list_triples linked
+    no_selection wiped_out offers stays is_selected passes_over none_empty neighbourhood fields_within widen closing supported supported_by
+    partner all_fields largest sweeps sweep pick some_empty empty cut pad same count only has count_bits count_in some_bit some_in keep_bits
+    keep_in mask_of bit some_below all_below list_triples linked
 computed s = page_of s
 
 -- sheet D

@@ -1,6 +1,7 @@
 -- The first bytes of an input decide it: a sheet has at most 8,184 numbers of at most four bytes, and the number after them is the last
 -- that is looked at. So the program reads 32,768 bytes and no more. Assumes nothing.
-use Rattle.std.specs.Prelude.{◌≡◌, refl, Bool, true, false, ◌&&◌, List, [], ◌∷◌, ℕ, zero, suc, ◌+◌, ◌-◌, ◌*◌, ◌<◌, ◌≤◌, ltb, eqb, length, take, drop}
+use Rattle.std.specs.Prelude.{◌≡◌, refl, Bool, true, false, ◌&&◌, List, [], ◌∷◌, ℕ, zero, suc, ◌+◌, ◌-◌, ◌*◌, ◌<◌, ◌≤◌, ltb, eqb, length}
+use Rattle.std.specs.Prelude.{take, drop}
 use Rattle.std.proofs.Common.{sym, ap, ◌∙◌, ⊎_elim, arith, take-take, take_all, length-take-le, ltb-true, ltb-false}
 use Rattle.masks.specs.Pick.{pick}
 use Rattle.limits.specs.Limits.{most_fields, most_numbers}
@@ -122,7 +123,7 @@ first-bytes s k h = go (ltb k (length s)) refl
         (agree most_numbers s k 0 (omega arith) (omega arith))
     go false e = ap (λ (l : List ℕ). refusal (of_bytes l)) (take_all k s (ltb-false k (length s) e))
 
--- So open answers to the 32,768 bytes that the program reads as to the whole input: proofs/WholeInput.antt.
+-- how many bytes the program reads
 abbrev pub input_bytes : ℕ
 input_bytes = 32768
 

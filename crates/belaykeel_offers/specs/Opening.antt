@@ -23,7 +23,8 @@ rising = 0 ∷ 1 ∷ 2 ∷ 3 ∷ 4 ∷ 5 ∷ 6 ∷ 7 ∷ 8 ∷ 9 ∷ 10 ∷ 11 �
 
 -- what open is given beside the session: a sheet, its n fields in rising order, and an offers list of so many words
 abbrev pub given_to : (sheet : List ℕ) (n words : ℕ) → Given
-given_to sheet n words = record { sheet = sheet; engine = 1; order = take n rising; offers = words; rows = rows_words; memory = memory_words }
+given_to sheet n words =
+    record { sheet = sheet; engine = 1; order = take n rising; offers = words; rows = rows_words; memory = memory_words }
 
 -- open with all n fields selected
 abbrev pub open_all : ℕ → Call
@@ -67,7 +68,8 @@ pub record Opened (sheet before : List ℕ) (r : Read) (front after : List ℕ) 
   pub accepted : r.number ≡ 0 → Accepted (take r.length front)
   pub ends : r.length ≤ length front
 
-module _ (sheet list : List ℕ) (room : most_numbers ≤ length list) (r : Read) (front : List ℕ) (g : Gives (reading sheet list) r front) where
+module _ (sheet list : List ℕ) (room : most_numbers ≤ length list) (r : Read) (front : List ℕ)
+    (g : Gives (reading sheet list) r front) where
   -- the sheet is refused by 1 to 5
   module _ (n : r.number ≡ 0 → ⊥) where
     -- open's number is the same
@@ -86,7 +88,8 @@ module _ (sheet list : List ℕ) (room : most_numbers ≤ length list) (r : Read
   module _ (z : r.number ≡ 0) where
     -- open's answer, with the length of the list that was read
     pub opened-read : (before : List ℕ) (k : ℕ) (after : List ℕ) (a : Read) → a ≡ answered k r.length
-        → (k ≡ (opening sheet (fields_of (list_of sheet)) before).number) × (after ≡ (opening sheet (fields_of (list_of sheet)) before).offers)
+        → (k ≡ (opening sheet (fields_of (list_of sheet)) before).number)
+        × (after ≡ (opening sheet (fields_of (list_of sheet)) before).offers)
         → Opened sheet before a front after
     opened-read before k after a e o =
         record {

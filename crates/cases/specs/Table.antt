@@ -51,14 +51,15 @@ agree : Bool → Bool → Bool
 agree true b = b
 agree false b = not b
 
--- It opens all that it computes with, so a theorem says `unfolding allHold` and no more.
+-- It opens all that it computes with, so a theorem says `unfolding all_hold` and no more.
 unfoldable pub holds : Case → Bool
-unfolding agree restrict wiped_out offers stays is_selected passes_over none_empty neighbourhood fields_within widen linked triple_has has_field
-    all_fields closing supported supported_by supported_by_triple together second_fits third_fits takes list_triples sheet_triple partner largest
-    sweeps sweep some_empty empty cut same count only count_bits count_in some_bit some_in keep_bits keep_in mask_of bit has pad some_below
-    all_below answers after_all tabulate occurrences number after first causes judged malformed no_engine is_order space_short no_selection
-    reversible all_on_sheet on_sheet in_force same_decision without change_by backed step other_chosen starts start_set offers_of wiped outline_of
-    refusal_from numbers items number_at groups pick advance field_start rule_start sheet_problem runs pairs
+unfolding agree restrict wiped_out offers stays is_selected passes_over none_empty neighbourhood fields_within widen linked triple_has
+    has_field all_fields closing supported supported_by supported_by_triple together second_fits third_fits takes list_triples sheet_triple
+    partner largest sweeps sweep some_empty empty cut same count only count_bits count_in some_bit some_in keep_bits keep_in mask_of bit has
+    pad some_below all_below answers after_all tabulate occurrences number after first causes judged malformed no_engine is_order
+    space_short no_selection reversible all_on_sheet on_sheet in_force same_decision without change_by backed step other_chosen starts
+    start_set offers_of wiped outline_of refusal_from numbers items number_at groups pick advance field_start rule_start sheet_problem runs
+    pairs
 holds (consistency P k selected S closed offered wiped) =
     let hood = neighbourhood P k in
     same (closing P (all_fields P) S) closed && same (offers P hood selected S) offered && agree (wiped_out P hood selected S) wiped

@@ -92,7 +92,8 @@ module _ (P : Problem) where
     offered = offers P hood selected
 
     -- a set that holds the offers and, closed over every field, has an empty one: wiped out
-    pub wiped-by : (S U : List ℕ) → offers P hood selected S ⊆ U → none_empty P (all_fields P) U ≡ false → wiped_out P hood selected S ≡ true
+    pub wiped-by : (S U : List ℕ) → offers P hood selected S ⊆ U → none_empty P (all_fields P) U ≡ false
+        → wiped_out P hood selected S ≡ true
     wiped-by S U h e =
         ⊎_elim (λ q. q)
         (λ q. absurd (never (none_empty-by P (all_fields P) U (none_empty_mono P (all_fields P) (offered S) U h

@@ -1,6 +1,7 @@
 -- The copy of the counts, made again: words copied towards one field after the other. Assumes nothing.
 use Rattle.std.specs.Prelude.{◌≡◌, refl, ◌⊎◌, true, List, ℕ, ◌+◌, ◌-◌, ◌*◌, ◌/◌, ◌≤◌, ◌<◌, ltb, length, get_or, set}
-use Rattle.std.proofs.Common.{sym, ap, ◌∙◌, inl, inr, ⊎_elim, eq-or-lt_of_le, arith, length-set, ext_get_or, get_or-set_same, get_or-set_other, ltb-true, ltb-false}
+use Rattle.std.proofs.Common.{sym, ap, ◌∙◌, inl, inr, ⊎_elim, eq-or-lt_of_le, arith, length-set, ext_get_or, get_or-set_same}
+use Rattle.std.proofs.Common.{get_or-set_other, ltb-true, ltb-false}
 use Rattle.std.proofs.Math.ListN.{get_or-eq_default}
 use Rattle.limits.specs.Limits.{most_fields, counts_words, counter_words}
 use Rattle.masks.specs.Tests.{never, bool_cases, eq_cases}
@@ -21,7 +22,8 @@ module _ (C : List ℕ) (j : ℕ) (R : List ℕ) where
   pub copied-start : Copied C j R 0 R
   copied-start = record { sized = refl; here = λ q l. absurd (omega arith); there = λ q o. refl }
 
-  pub copied-turn : (k : ℕ) (Q : List ℕ) (x : ℕ) → k < counts_words → j * counts_words + k < length Q → x ≡ get_or C (j * counts_words + k) 0
+  pub copied-turn : (k : ℕ) (Q : List ℕ) (x : ℕ) → k < counts_words → j * counts_words + k < length Q
+      → x ≡ get_or C (j * counts_words + k) 0
       → Copied C j R k Q → Copied C j R (k + 1) (set Q (j * counts_words + k) x)
   copied-turn k Q x h l e p = record {
     sized = length-set Q _ x ∙ p.sized;

@@ -49,14 +49,16 @@ module _ (n : ℕ) (joined forward turned triples : List ℕ) (S : List ℕ) (a 
   abbrev cut_off : ℕ
   cut_off = bit_xor (get_or S f 0) (get_or (cut S f v) f 0)
 
-  pub cut-asks : (length S ≡ most_fields) × Small S × (f < most_fields) × Within (bit_xor (get_or S f 0) (get_or (cut S f v) f 0)) (get_or S f 0)
+  pub cut-asks : (length S ≡ most_fields) × Small S × (f < most_fields)
+      × Within (bit_xor (get_or S f 0) (get_or (cut S f v) f 0)) (get_or S f 0)
       × (length list ≡ list_places) × (0 + count S ≤ list_places)
   cut-asks =
       off-asks cut_off
       (off-within n joined forward turned triples S a (cut S f v) f (length_cut S f v) (cut_⊆ S f v)
       (cut-same n joined forward turned triples S a f v))
 
-  module _ (R K : List ℕ) (t : ℕ) (m : Moved S list 0 R K t) (made : R ≡ without S f (bit_xor (get_or S f 0) (get_or (cut S f v) f 0))) where
+  module _ (R K : List ℕ) (t : ℕ) (m : Moved S list 0 R K t)
+      (made : R ≡ without S f (bit_xor (get_or S f 0) (get_or (cut S f v) f 0))) where
     is_cut : R ≡ cut S f v
     is_cut =
         made
@@ -102,7 +104,8 @@ module _ (n : ℕ) (joined forward turned triples : List ℕ) (S : List ℕ) (a 
 
   -- ---- the removal: the setting itself goes
 
-  pub lose-asks : (length S ≡ most_fields) × Small S × (f < most_fields) × Within (bit_xor (get_or S f 0) (get_or (lose S f v) f 0)) (get_or S f 0)
+  pub lose-asks : (length S ≡ most_fields) × Small S × (f < most_fields)
+      × Within (bit_xor (get_or S f 0) (get_or (lose S f v) f 0)) (get_or S f 0)
       × (length list ≡ list_places) × (0 + count S ≤ list_places)
   lose-asks =
       off-asks _
@@ -127,13 +130,15 @@ module _ (n : ℕ) (joined forward turned triples : List ℕ) (S : List ℕ) (a 
         (in_all_fields P f (a.live.on f v e)).1 (lose-full n joined forward turned triples S a f v left) counter refl K t
         (rw is_lost at m))
 
-    pub lose_else : ClosedElse (problem_of n joined forward turned triples) (all_fields (problem_of n joined forward turned triples)) (2 ^ f) R
+    pub lose_else : ClosedElse (problem_of n joined forward turned triples) (all_fields (problem_of n joined forward turned triples))
+        (2 ^ f) R
     lose_else = rw is_lost (closed_else n joined forward turned triples S a (lose S f v) f (length-lose S f v) (lose_⊆ S f v)
         (lose-same n joined forward turned triples S a f v) (all_fields P))
 
     module _ (wiped : Bool) (changed spent : ℕ) (D L : List ℕ) (u : ℕ) (C : List ℕ)
         (p : Pruned P (all_fields (problem_of n joined forward turned triples)) support R K t counter wiped changed spent D L u C) where
-      pub lose-recover-asks : (spent < 2 ^ most_fields) × (length C ≡ counter_words) × (length copy ≡ counter_words) × OnlySpent spent C copy
+      pub lose-recover-asks : (spent < 2 ^ most_fields) × (length C ≡ counter_words) × (length copy ≡ counter_words)
+          × OnlySpent spent C copy
       lose-recover-asks = (
         fields-small n joined forward turned triples spent a.wired.few p.spends,
         p.long,

@@ -1,6 +1,7 @@
 -- The counts towards a field, for the settings of every other. Assumes nothing.
 use Rattle.std.specs.Prelude.{◌≡◌, refl, ◌⊎◌, Bool, ◌&&◌, List, ℕ, ◌+◌, ◌*◌, ◌≤◌, ◌<◌, ltb, length, get_or, set, replicate}
-use Rattle.std.proofs.Common.{◌∙◌, inl, inr, ⊎_elim, le_refl, eq-or-lt_of_le, arith, length-set, get_or-set_same, get_or-set_other, ltb-true, ltb-false}
+use Rattle.std.proofs.Common.{◌∙◌, inl, inr, ⊎_elim, le_refl, eq-or-lt_of_le, arith, length-set, get_or-set_same, get_or-set_other}
+use Rattle.std.proofs.Common.{ltb-true, ltb-false}
 use Rattle.std.specs.Int.Bits.{bit_and, bit_xor}
 use Rattle.std.proofs.Math.Dec.{eqb}
 use Rattle.std.proofs.lemmas.List.{length-replicate}
@@ -191,7 +192,8 @@ module _ (C : List ℕ) (j : ℕ) (s : List ℕ) (k : ℕ) (R Q : List ℕ) (h :
 pub uncounted-start : (C : List ℕ) (j : ℕ) (d none : List ℕ) → First 0 none → Uncounted C j d 0 none
 uncounted-start C j d none f = record { first = f; zero = λ i a h. absurd (omega arith) }
 
-pub uncounted-next : (C : List ℕ) (j : ℕ) (d : List ℕ) (k r : ℕ) (none : List ℕ) → k < most_fields → r ≡ counted_word C (j * counts_words + k)
+pub uncounted-next : (C : List ℕ) (j : ℕ) (d : List ℕ) (k r : ℕ) (none : List ℕ) → k < most_fields
+    → r ≡ counted_word C (j * counts_words + k)
     → Uncounted C j d k none → Uncounted C j d (k + 1) (set none k (bit_xor (get_or d k 0) (bit_and (get_or d k 0) r)))
 unfolding has
 uncounted-next C j d k r none h e p = record {

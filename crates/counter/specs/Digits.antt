@@ -67,7 +67,8 @@ bit-counted : (C : List ℕ) (p a : ℕ) → not (bit (counted_word C p) a) ≡ 
 unfolding digit_count counted_word
 bit-counted C p a =
     rw (bit-or, bit-or, bit-or, bit-or)
-    (zero-digits (digit_count C p a) (bit (get_or C p 0) a) (bit (get_or C (p + 24) 0) a) (bit (get_or C (p + 48) 0) a) (bit (get_or C (p + 72) 0) a)
+    (zero-digits (digit_count C p a) (bit (get_or C p 0) a) (bit (get_or C (p + 24) 0) a) (bit (get_or C (p + 48) 0) a)
+    (bit (get_or C (p + 72) 0) a)
     (bit (get_or C (p + 96) 0) a) refl)
 
 -- x without y, as code finds it

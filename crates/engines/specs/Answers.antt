@@ -27,7 +27,8 @@ same_answer P hood selected S wiped wiped' R R' a b =
     (same, λ e. a.made e ∙ sym (b.made (sym same ∙ e)))
 
 -- masks that are the neighbourhoods at a reach are what the engines ask
-hoods-at : (xs hood : List ℕ) → ((f : ℕ) → f < (sheet_problem xs).fields → get_or hood f 0 ≡ neighbourhood (sheet_problem xs) (reach_of xs) f)
+hoods-at : (xs hood : List ℕ) → ((f : ℕ) → f < (sheet_problem xs).fields
+    → get_or hood f 0 ≡ neighbourhood (sheet_problem xs) (reach_of xs) f)
     → Hoods (sheet_problem xs) hood
 hoods-at xs hood e = record {
   fields = λ f h. rw (e f h) (λ g b. (in_all_fields (sheet_problem xs) g (neighbourhood_bound (sheet_problem xs) (reach_of xs) f g b)).1);

@@ -42,7 +42,8 @@ asks-on xs count order selected S rows after memory a e = record {
 
 -- ---- a table of triple rules, made of zeros: its front alone where there are none, and room for all that a sheet may have
 
-zeros-asks : (xs full : List ℕ) → Accepted xs → full ≡ (outline_of xs).full → (words : ℕ) → triples_front + triples_of xs * triple_words ≤ words
+zeros-asks : (xs full : List ℕ) → Accepted xs → full ≡ (outline_of xs).full → (words : ℕ)
+    → triples_front + triples_of xs * triple_words ≤ words
     → Accepted xs × (full ≡ (outline_of xs).full) × (triples_front + triples_of xs * triple_words ≤ length {A = ℕ} (replicate words 0))
     × ZerosFrom 0 (replicate words 0)
 zeros-asks xs full a e words h = (a, e, (let n = length-replicate {A = ℕ} words 0 in omega arith), λ q _. get_d_zeros words q)
@@ -50,10 +51,12 @@ zeros-asks xs full a e words h = (a, e, (let n = length-replicate {A = ℕ} word
 module _ (xs : List ℕ) (net : Network) (forward turned : List ℕ) (t : NetworkOf xs net forward turned) (a : Accepted xs) (full : List ℕ)
     (e : full ≡ (outline_of xs).full) where
   pub zeros-front : net.triples ≡ 0
-      → Accepted xs × (full ≡ (outline_of xs).full) × (triples_front + triples_of xs * triple_words ≤ length {A = ℕ} (replicate triples_front 0))
+      → Accepted xs × (full ≡ (outline_of xs).full)
+      × (triples_front + triples_of xs * triple_words ≤ length {A = ℕ} (replicate triples_front 0))
       × ZerosFrom 0 (replicate triples_front 0)
   zeros-front z = zeros-asks xs full a e triples_front (let n = t.triples in omega arith)
 
   pub zeros-table : Accepted xs × (full ≡ (outline_of xs).full)
-      × (triples_front + triples_of xs * triple_words ≤ length {A = ℕ} (replicate triples_words 0)) × ZerosFrom 0 (replicate triples_words 0)
+      × (triples_front + triples_of xs * triple_words ≤ length {A = ℕ} (replicate triples_words 0))
+      × ZerosFrom 0 (replicate triples_words 0)
   zeros-table = zeros-asks xs full a e triples_words (let n = (facts xs a).triples-few in omega arith)

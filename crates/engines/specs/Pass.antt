@@ -37,7 +37,8 @@ module _ (P : Problem) (order hood : List ℕ) (selected : ℕ) (S0 : List ℕ) 
   }
 
   -- a field that is not selected is passed over
-  pub passing_skip : (p touched : ℕ) (S : List ℕ) → Passing p touched S → bit selected (get_or order p 0) ≡ false → Passing (p + 1) touched S
+  pub passing_skip : (p touched : ℕ) (S : List ℕ) → Passing p touched S → bit selected (get_or order p 0) ≡ false
+      → Passing (p + 1) touched S
   passing_skip p touched S g n = record {
     kept = g.kept;
     past = λ z q i s. ⊎_elim (λ j. absurd (never s.1 (ap (λ (x : ℕ). bit selected (get_or order x 0)) j ∙ n))) (λ j. g.past z q j s)

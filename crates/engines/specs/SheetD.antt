@@ -88,9 +88,9 @@ hood_of_d = neighbourhood (sheet_problem numbers_of_d) (reach_of numbers_of_d)
 
 computed : (wiped_out (sheet_problem numbers_of_d) hood_of_d 3 start_of_d ≡ false)
     × (offers (sheet_problem numbers_of_d) hood_of_d 3 start_of_d ≡ offers_of_d)
-unfolding wiped_out offers stays is_selected passes_over none_empty neighbourhood fields_within widen all_fields closing supported supported_by
-    partner largest sweeps sweep some_empty empty cut same count only count_bits count_in some_bit some_in keep_bits keep_in mask_of bit
-    some_below all_below sheet_problem runs pairs pick field_start rule_start linked list_triples
+unfolding wiped_out offers stays is_selected passes_over none_empty neighbourhood fields_within widen all_fields closing supported
+    supported_by partner largest sweeps sweep some_empty empty cut same count only count_bits count_in some_bit some_in keep_bits keep_in
+    mask_of bit some_below all_below sheet_problem runs pairs pick field_start rule_start linked list_triples
 computed = (refl, refl)
 
 -- The only answer there: not wiped out, and the offers (6, 3).

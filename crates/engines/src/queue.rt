@@ -25,6 +25,7 @@ pub struct Waiting {
 
 // The queue after the fields of `changed` lost settings: at the whole reach every selected field is put back, otherwise the selected ones
 // of the other fields of each changed field's neighbourhood.
+#[tactic(auto, using(crate::specs::PutBack::back_all))]
 fn put_back(queue: u32, changed: u32, selected: u32, net: Network) -> u32
     requires { BackAsks net.fields net.hood selected queue changed }
     ensures { result ≡ put_back net.fields net.reach net.hood selected queue changed }

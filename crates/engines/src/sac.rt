@@ -159,7 +159,8 @@ pub fn sac<'a>(
         if r.wiped {
             return true;
         }
-        if r.changed == 0 {
+        let same = r.changed == 0;
+        if same {
             return false;
         }
     }

@@ -163,6 +163,7 @@ fn set_count(counts: &mut [u32], field: u32, x: u32)
 }
 
 // What a setting x leads to.
+#[tactic(auto, unfolding(masks::specs::Pick::pick))]
 fn setting(n: u32, field: u32, more: u32, floor: u64, x: u32) -> State
     ensures { result ≡ ranged (leb x largest_setting) (ordered (leb floor x) (after_setting n field more (x + 1))) }
 {
@@ -190,6 +191,7 @@ fn second(n: u32, rules: u32, floor: u64, i: u32, x: u32) -> State
 }
 
 // What a kind x leads to.
+#[tactic(auto, unfolding(masks::specs::Pick::pick))]
 fn kind(n: u32, rules: u32, i: u32, j: u32, masks: u32, x: u32) -> State
     ensures { result ≡ ranged (leb x last_kind) (after_kind n rules (key i j + 1) j masks x) }
 {

@@ -44,6 +44,7 @@ pub fn triple_first(n: u32, triples: u32, floor: u64, x: u32) -> State
 }
 
 // What a triple's second field x leads to, i being its first.
+#[tactic(auto, unfolding(masks::specs::Pick::pick))]
 pub fn triple_second(n: u32, triples: u32, floor: u64, i: u32, x: u32) -> State
     ensures { result ≡ ranged (ltb x n) (ordered (ltb i x) (State.Wants n (Expected.TripleThird triples floor i x))) }
 {
@@ -57,6 +58,7 @@ pub fn triple_second(n: u32, triples: u32, floor: u64, i: u32, x: u32) -> State
 }
 
 // What a triple's third field x leads to, i and j being its first and second.
+#[tactic(auto, unfolding(masks::specs::Pick::pick))]
 pub fn triple_third(n: u32, triples: u32, floor: u64, i: u32, j: u32, x: u32) -> State
     ensures { result ≡ ranged (ltb x n)
         (ordered (rising_triple i j x floor) (State.Wants n (Expected.TripleAmount triples (triple_key i j x + 1)))) }

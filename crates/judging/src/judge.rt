@@ -41,6 +41,7 @@ fn judge_place(outline: Outline, call: Call) -> u32
 }
 
 // 13: back with no event.
+#[tactic(auto, using(crate::proofs::Counts::back_refused, crate::proofs::Counts::back_taken))]
 fn judge_back(session: Session) -> u32
     ensures { result ≡ first (step_causes Back (view session)) }
 {

@@ -20,6 +20,7 @@ fn occurrences(order: &[u8], f: usize) -> usize
 }
 
 // Whether the list has n bytes and holds every field just one time.
+#[tactic(auto, using(crate::proofs::Counts::order_refused))]
 pub fn is_order(order: &[u8], n: usize) -> bool
     ensures { result ≡ is_order n order.now }
 {

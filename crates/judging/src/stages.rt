@@ -108,6 +108,7 @@ fn withdrawn_unheld(d: Decisions, e: Event) -> bool
 }
 
 // 10: the decision to add is in force. 11: the decision to withdraw is not. 12: 64 events and one to add.
+#[tactic(auto, using(crate::proofs::Counts::change_refused, crate::proofs::Counts::change_taken))]
 pub fn judge_change(session: Session, e: Event) -> u32
     ensures { result ≡ first (change_causes e (view session)) }
 {

@@ -3,7 +3,7 @@ use Rattle.std.specs.Prelude.{◌≡◌, refl, Bool, true, false, not, ◌||◌,
 use Rattle.std.proofs.Common.{sym, ap, ◌∙◌, eqb-true, eq-eqb, ne_eqb, ltb-false, le-ltb}
 use native.Mathlib.Omega.{arith}
 use Rattle.limits.specs.Limits.{most_events}
-use Rattle.limits.specs.Refusals.{TOO_SHORT, UNKNOWN, NO_ORDER, ADDED_AGAIN, NOT_IN_FORCE, NO_ROOM, NOTHING_PAST}
+use Rattle.limits.specs.Refusals.{TOO_SHORT}
 use Rattle.limits.specs.Refusals.{WIPED_OUT, MALFORMED, NO_SELECTION}
 use Rattle.masks.specs.Tests.{never}
 use Rattle.sheet.specs.Sources.{refusal, numbers, of_bytes}
@@ -17,6 +17,7 @@ use Rattle.ledger.specs.Ledger.{no_selection, reversible, malformed, is_order, s
 use Rattle.ledger.specs.Ledger.{step_causes, offers_causes, judged, causes, number}
 use Rattle.ledger.specs.Causes.{None, Avoids, Numbered, avoids_++, first_end, first-applies, first_next, first-none, first-here}
 use Rattle.ledger.specs.Causes.{first-there, first-both, first_avoids}
+use Rattle.ledger.proofs.NotJudged.{NotJudged, not-judged}
 
 pub or_left : (a b : Bool) → (a || b) ≡ false → a ≡ false
 or_left true b e = e
@@ -31,25 +32,6 @@ not_back true e = refl
 not_back false e = sym e
 
 -- ---- a number k that no cause of a stage has
-
--- k is none of 7 and 9 to 13
-record NotJudged (k : ℕ) : Type 0 where
-  pub not_7 : UNKNOWN ≡ k → ⊥
-  pub not_9 : NO_ORDER ≡ k → ⊥
-  pub not_10 : ADDED_AGAIN ≡ k → ⊥
-  pub not_11 : NOT_IN_FORCE ≡ k → ⊥
-  pub not_12 : NO_ROOM ≡ k → ⊥
-  pub not_13 : NOTHING_PAST ≡ k → ⊥
-
-not-judged : (k : ℕ) → (7 ≤ k → k ≤ 13 → k ≡ 8) → NotJudged k
-not-judged k h = record {
-  not_7 = λ z. let e = h (omega arith) (omega arith) in omega arith;
-  not_9 = λ z. let e = h (omega arith) (omega arith) in omega arith;
-  not_10 = λ z. let e = h (omega arith) (omega arith) in omega arith;
-  not_11 = λ z. let e = h (omega arith) (omega arith) in omega arith;
-  not_12 = λ z. let e = h (omega arith) (omega arith) in omega arith;
-  not_13 = λ z. let e = h (omega arith) (omega arith) in omega arith;
-}
 
 not-judged_0 : NotJudged 0
 not-judged_0 = not-judged 0 (λ a b. omega arith)

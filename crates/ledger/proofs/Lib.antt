@@ -1,4 +1,5 @@
 -- What holds of the definitions of `ledger`.
+pub mod NotJudged
 pub mod Judging
 pub mod Laws
 pub mod Sound

@@ -1,6 +1,7 @@
 -- The words of a triple rule, written row after row. Assumes nothing.
 use Rattle.std.specs.Prelude.{◌≡◌, refl, ◌⊎◌, Bool, ◌&&◌, List, ℕ, ◌+◌, ◌*◌, ◌≤◌, ◌<◌, ltb, length, get_or, set}
-use Rattle.std.proofs.Common.{sym, ap, ◌∙◌, inl, inr, ⊎_elim, eq-or-lt_of_le, arith, length-set, get_or-set_same, get_or-set_other, lt-ltb, le-ltb, ltb-true, ltb-false}
+use Rattle.std.proofs.Common.{sym, ap, ◌∙◌, inl, inr, ⊎_elim, eq-or-lt_of_le, arith, length-set, get_or-set_same, get_or-set_other, lt-ltb}
+use Rattle.std.proofs.Common.{le-ltb, ltb-true, ltb-false}
 use Rattle.limits.specs.Limits.{most_settings}
 use Rattle.masks.specs.Tests.{bool_cases}
 use Rattle.masks.specs.Masks.{mask_of}
@@ -80,7 +81,8 @@ module _ (xs : List ℕ) (t : ℕ) where
 
     -- the words of one position more, with the fields and the number as the code has them
     pub triple-rows-next : (m i j k c p row : ℕ) (T T' : List ℕ) → i ≡ triple_first xs t → j ≡ triple_second xs t → k ≡ triple_third xs t
-        → c ≡ triple_number xs t → p ≡ setting_of xs i m → row ≡ base + m * most_settings → m < count_of xs i → count_of xs j ≤ most_settings
+        → c ≡ triple_number xs t → p ≡ setting_of xs i m → row ≡ base + m * most_settings → m < count_of xs i
+        → count_of xs j ≤ most_settings
         → ZerosFrom base T0 → TripleRows xs t T0 base m T → Run T row (λ v. thirds_of xs k c p (setting_of xs j v)) (count_of xs j) T'
         → TripleRows xs t T0 base (m + 1) T'
     triple-rows-next m i j k c p row T T' ei ej ek ec ep er h few zeros y run = record {

@@ -1,6 +1,8 @@
 -- The tables of a sheet, filled rule after rule. Assumes nothing.
-use Rattle.std.specs.Prelude.{◌≡◌, refl, ◌⊎◌, Bool, true, false, ◌||◌, List, ℕ, ◌+◌, ◌*◌, ◌^◌, ◌≤◌, ◌<◌, eqb, ltb, length, get_or, set, replicate}
-use Rattle.std.proofs.Common.{sym, ap, ◌∙◌, inl, inr, ⊎_elim, eq-or-lt_of_le, add-one, arith, length-set, get_or-set_same, get_or-set_other, eqb-true, eq-eqb, ltb-true, ltb-false}
+use Rattle.std.specs.Prelude.{◌≡◌, refl, ◌⊎◌, Bool, true, false, ◌||◌, List, ℕ, ◌+◌, ◌*◌, ◌^◌, ◌≤◌, ◌<◌, eqb, ltb, length, get_or, set}
+use Rattle.std.specs.Prelude.{replicate}
+use Rattle.std.proofs.Common.{sym, ap, ◌∙◌, inl, inr, ⊎_elim, eq-or-lt_of_le, add-one, arith, length-set, get_or-set_same, get_or-set_other}
+use Rattle.std.proofs.Common.{eqb-true, eq-eqb, ltb-true, ltb-false}
 use Rattle.std.specs.Int.Bits.{bit_or}
 use Rattle.std.proofs.lemmas.List.{length-replicate}
 use Rattle.limits.specs.Limits.{most_fields, most_settings, most_rules, rows_words, table_words}
@@ -112,7 +114,8 @@ module _ (xs : List ℕ) (a : Accepted xs) (r : ℕ) (h : r < rules_of xs) where
         (λ q. ⊎_elim (λ y. absurd (near (runs-at xs (second_of xs r) e r y).0))
         (λ y. eq-eqb e (first_of xs r) (sym (runs-at xs e (second_of xs r) r y).0))
         (or_at (runs xs (second_of xs r) e r) _ q))
-        (λ q. or_r (runs xs (second_of xs r) e r) _ (ap (λ (x : ℕ). runs xs x (second_of xs r) r) (eqb-true e (first_of xs r) q) ∙ runs_here))
+        (λ q. or_r (runs xs (second_of xs r) e r) _ (ap (λ (x : ℕ). runs xs x (second_of xs r) r) (eqb-true e (first_of xs r) q)
+        ∙ runs_here))
 
     first-low : first_of xs r < length joined
     first-low = let b = rule_bounds in let l = b.0 in let m = b.1 in let n = t.marks in omega arith
@@ -186,7 +189,8 @@ module _ (xs rows0 : List ℕ) where
     rule-at = record { accepted = p.accepted; within = h; at = p.at }
 
     -- its fields have a place among the joined fields
-    pub joined-room : (i j : ℕ) → i ≡ first_of xs r → j ≡ second_of xs r → (i < most_fields) × (j < most_fields) × (length joined ≡ most_fields)
+    pub joined-room : (i j : ℕ) → i ≡ first_of xs r → j ≡ second_of xs r
+        → (i < most_fields) × (j < most_fields) × (length joined ≡ most_fields)
     joined-room i j a b =
         let m = rule_bounds xs p.accepted r h in
         let k = m.0 in

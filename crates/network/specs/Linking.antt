@@ -154,12 +154,14 @@ module _ (xs joined links : List ℕ) (p : LinksTo xs joined (triples_of xs) lin
           (λ q. let s = some_below-at n u q in some_below-by n v s.0 s.1 (sym (e s.0 s.1) ∙ s.2))
           (λ q. let s = some_below-at n v q in some_below-by n u s.0 s.1 (e s.0 s.1 ∙ s.2))
 
-  pub links_of : ((f g : ℕ) → bit (get_or joined f 0) g ≡ some_below (rules_of xs) (joins xs f g)) → Links (fields_of xs) links (sheet_problem xs)
+  pub links_of : ((f g : ℕ) → bit (get_or joined f 0) g ≡ some_below (rules_of xs) (joins xs f g))
+      → Links (fields_of xs) links (sheet_problem xs)
   unfolding linked sheet_problem
   links_of m = record {
     fields = refl;
     same = λ f g. ap₂ ◌||◌ (sym (m f g))
-        (ap (λ (n : ℕ). some_below n (triple_has (sheet_problem xs) f g)) (length-triples (triples_of xs) (sheet_triple xs)) ∙ same-pairs f g)
+        (ap (λ (n : ℕ). some_below n (triple_has (sheet_problem xs) f g)) (length-triples (triples_of xs) (sheet_triple xs))
+        ∙ same-pairs f g)
         ∙ sym (p.at f g);
   }
 

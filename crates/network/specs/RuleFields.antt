@@ -3,7 +3,8 @@ use Rattle.std.specs.Prelude.{◌≡◌, Bool, List, ℕ, ◌≤◌, ◌<◌}
 use Rattle.std.proofs.Common.{sym, arith, lt-ltb, le-ltb}
 use Rattle.limits.specs.Limits.{most_fields, most_settings}
 use Rattle.masks.specs.Masks.{mask_of}
-use Rattle.accepted.specs.Parts.{fields_of, field_start, count_of, first_of, second_of, kind_of, number_of, setting_of, rule_allows, FieldAt, RuleAt}
+use Rattle.accepted.specs.Parts.{fields_of, field_start, count_of, first_of, second_of, kind_of, number_of, setting_of, rule_allows}
+use Rattle.accepted.specs.Parts.{FieldAt, RuleAt}
 use Rattle.accepted.specs.Kinds.{allows}
 use Rattle.accepted.specs.Facts.{Facts, facts}
 use Rattle.masks.proofs.Loops.{mask-false}
@@ -57,7 +58,8 @@ module _ (xs : List ℕ) (r place i j atI atJ : ℕ) (g : RuleFields xs r place 
   row_is v h = rw (g.second, lt-ltb v (count_of xs (first_of xs r)) (rw g.first at h))
 
   -- what code finds of a pair is what the rule allows
-  pub allows-is : (v u kind c p q : ℕ) (t : Bool) → kind ≡ kind_of xs r → c ≡ number_of xs r v → p ≡ setting_of xs i v → q ≡ setting_of xs j u
+  pub allows-is : (v u kind c p q : ℕ) (t : Bool) → kind ≡ kind_of xs r → c ≡ number_of xs r v → p ≡ setting_of xs i v
+      → q ≡ setting_of xs j u
       → t ≡ allows kind c p q u
       → rule_allows xs r v u ≡ t
   allows-is v u kind c p q t a b d e h = sym (rw (a, b, d, e, g.first, g.second) at h)

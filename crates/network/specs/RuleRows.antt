@@ -1,6 +1,7 @@
 -- The rows of one rule: as they are made, and as they are stored in both tables. Assumes nothing.
 use Rattle.std.specs.Prelude.{◌≡◌, ◌&&◌, List, ℕ, ◌+◌, ◌*◌, ◌≤◌, ◌<◌, ltb, length, get_or, set, replicate}
-use Rattle.std.proofs.Common.{sym, ap, ◌∙◌, ⊎_elim, eq-or-lt_of_le, arith, length-set, get_or-set_same, get_or-set_other, lt-ltb, ltb-true, ltb-false, eq-eqb}
+use Rattle.std.proofs.Common.{sym, ap, ◌∙◌, ⊎_elim, eq-or-lt_of_le, arith, length-set, get_or-set_same, get_or-set_other, lt-ltb, ltb-true}
+use Rattle.std.proofs.Common.{ltb-false, eq-eqb}
 use Rattle.std.proofs.lemmas.List.{length-replicate}
 use Rattle.limits.specs.Limits.{most_settings, most_rules, table_words}
 use Rattle.masks.specs.Tests.{bool_cases}

@@ -1,6 +1,7 @@
 -- A word for each setting, stored in a list of words. Assumes nothing.
 use Rattle.std.specs.Prelude.{◌≡◌, refl, ◌⊎◌, List, ℕ, ◌+◌, ◌≤◌, ◌<◌, ltb, length, get_or, set, take}
-use Rattle.std.proofs.Common.{sym, ap, ◌∙◌, inl, inr, ⊎_elim, eq-or-lt_of_le, arith, length-set, length-drop, get_or-set_same, get_or-set_other, ltb-true, ltb-false}
+use Rattle.std.proofs.Common.{sym, ap, ◌∙◌, inl, inr, ⊎_elim, eq-or-lt_of_le, arith, length-set, length-drop, get_or-set_same}
+use Rattle.std.proofs.Common.{get_or-set_other, ltb-true, ltb-false}
 use Rattle.std.proofs.Math.ListN.{length-take, get_or-eq_default}
 use Rattle.std.proofs.Math.Seq.{get_or-take, get_or-drop}
 use Rattle.limits.specs.Limits.{most_settings, table_words}

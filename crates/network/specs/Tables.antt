@@ -1,5 +1,6 @@
 -- The tables of a problem, and the problem that tables hold. Assumes nothing.
-use Rattle.std.specs.Prelude.{◌≡◌, refl, Bool, true, false, ◌&&◌, cond, List, [], ℕ, ◌+◌, ◌-◌, ◌*◌, ◌≤◌, ◌<◌, ltb, length, get_or, take, drop}
+use Rattle.std.specs.Prelude.{◌≡◌, refl, Bool, true, false, ◌&&◌, cond, List, [], ℕ, ◌+◌, ◌-◌, ◌*◌, ◌≤◌, ◌<◌, ltb, length, get_or, take}
+use Rattle.std.specs.Prelude.{drop}
 use Rattle.std.proofs.Common.{arith, length-take, length-drop, take_all, lt-ltb, le-ltb, ltb-true, ltb-false}
 use Rattle.limits.specs.Limits.{most_fields, most_settings, rows_words, table_words}
 use Rattle.masks.specs.Bits.{bit}
@@ -13,7 +14,8 @@ forward_of rows = take table_words rows
 unfoldable pub turned_of : List ℕ → List ℕ
 turned_of rows = drop table_words rows
 
-pub tables-room : (rows : List ℕ) → rows_words ≤ length rows → (table_words ≤ length (forward_of rows)) × (table_words ≤ length (turned_of rows))
+pub tables-room : (rows : List ℕ) → rows_words ≤ length rows
+    → (table_words ≤ length (forward_of rows)) × (table_words ≤ length (turned_of rows))
 unfolding forward_of turned_of
 tables-room rows h = (simp length-take (omega arith), simp length-drop (omega arith))
 

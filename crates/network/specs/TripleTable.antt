@@ -67,7 +67,8 @@ no_triples n joined forward turned t l = omega arith
 pub record TripleTable (n : ℕ) (T : List ℕ) : Type 0 where
   pub few : triple_count T ≤ most_triples
   pub long : triples_front + triple_count T * triple_words ≤ length T
-  pub rise : (t : ℕ) → t < triple_count T → ((triple_in T t).first < (triple_in T t).second) × ((triple_in T t).second < (triple_in T t).third)
+  pub rise : (t : ℕ) → t < triple_count T → ((triple_in T t).first < (triple_in T t).second)
+      × ((triple_in T t).second < (triple_in T t).third)
       × ((triple_in T t).third < n)
   pub have : (f t : ℕ) → f < n → t < triple_count T → bit (triples_with T f) t ≡ has_field (triple_in T t) f
   pub have-low : (f t : ℕ) → f < n → bit (triples_with T f) t ≡ true → t < triple_count T

@@ -38,7 +38,8 @@ pub both-none : (D none : List ℕ) → both_below 0 D none ≡ 0
 unfolding both_below
 both-none D none = refl
 
-pub both-next : (k : ℕ) (D none : List ℕ) → both_below (k + 1) D none ≡ bit_or (both_below k D none) (bit_and (get_or D k 0) (get_or none k 0))
+pub both-next : (k : ℕ) (D none : List ℕ)
+    → both_below (k + 1) D none ≡ bit_or (both_below k D none) (bit_and (get_or D k 0) (get_or none k 0))
 unfolding both_below
 both-next k D none = rw add-one
 

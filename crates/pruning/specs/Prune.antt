@@ -31,7 +31,8 @@ use Rattle.pruning.specs.Pending.{count-lowered, counts-take}
 
 -- no word changed but those of the counts towards the fields of `spent`
 pub record OnlySpent (spent : ℕ) (C R : List ℕ) : Type 0 where
-  pub same : (j : ℕ) → bit spent j ≡ false → (q : ℕ) → j * counts_words ≤ q → q < j * counts_words + counts_words → get_or R q 0 ≡ get_or C q 0
+  pub same : (j : ℕ) → bit spent j ≡ false → (q : ℕ) → j * counts_words ≤ q → q < j * counts_words + counts_words
+      → get_or R q 0 ≡ get_or C q 0
 
 module _ (P : Problem) (W : ℕ) (S : List ℕ) where
   -- ---- settings without a partner in field j are dropped
@@ -232,7 +233,7 @@ module _ (P : Problem) (W : ℕ) (S : List ℕ) where
                   (λ z. let y = ltb-false g j z in inr (omega arith)) (bool_cases (ltb g j))
 
           module _ (near : ℕ) (near-at : (f : ℕ) → bit near f ≡ true → In P W f × (P.joined f j ≡ true))
-              (Near-by : (f : ℕ) → In P W f → P.joined f j ≡ true → bit near f ≡ true) (Q K : List ℕ) (u lost : ℕ) where
+              (near_by : (f : ℕ) → In P W f → P.joined f j ≡ true → bit near f ≡ true) (Q K : List ℕ) (u lost : ℕ) where
             -- what has a partner has a count
             alone : (f v c : ℕ) → In P W f → P.joined f j ≡ true → has D f v ≡ true → has D j c ≡ true → P.allowed f j v c ≡ true
                 → has none f v ≡ false
@@ -274,7 +275,7 @@ module _ (P : Problem) (W : ℕ) (S : List ℕ) where
 
                 here : P.joined i j ≡ true → 0 < count_at R j i v
                 here c =
-                    let o = left_out (Near-by i y c) in
+                    let o = left_out (near_by i y c) in
                     let f = count-lowered _ S C _ p.counts j b x.0 small_b there a.few set set_of wide w most none R r i v
                     y.0 in
                     let q = p.positive i j v y x c there-still in

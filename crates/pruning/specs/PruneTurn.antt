@@ -38,6 +38,10 @@ pub record EnoughLowered (D C S : List ℕ) (x j n : ℕ) (some : Bool) (none R 
   pub most : wide ≤ most_fields
   pub done : SetLowered D C S x j wide some none R
 
+pub enough_lowered : {D C S : List ℕ} {x j wide n : ℕ} {some : Bool} {none R : List ℕ} → SetLowered D C S x j wide some none R
+    → n ≤ wide → wide ≤ most_fields → EnoughLowered D C S x j n some none R
+enough_lowered {wide = wide} done enough most = record { wide = wide; enough = enough; most = most; done = done }
+
 module _ (n : ℕ) (joined forward turned : List ℕ) (wired : Wired n joined forward turned) (W : ℕ) (S D1 L1 : List ℕ) (t1 : ℕ) (C1 : List ℕ)
     (s : ℕ) (a : PruneAsks (rule_problem n joined forward turned) W S s D1 L1 t1 C1) (h changed spent : ℕ) (D L : List ℕ) (t : ℕ)
     (C : List ℕ)
@@ -55,7 +59,8 @@ module _ (n : ℕ) (joined forward turned : List ℕ) (wired : Wired n joined fo
   b : ℕ
   b = (head_setting P W S D1 L1 t1 C1 s a h changed spent D L t C p k).1
 
-  head_is : (b < most_settings) × (get_or L h 0 ≡ number_of (get_or L h 0 / most_settings) b) × (has D (get_or L h 0 / most_settings) b ≡ false)
+  head_is : (b < most_settings) × (get_or L h 0 ≡ number_of (get_or L h 0 / most_settings) b)
+      × (has D (get_or L h 0 / most_settings) b ≡ false)
       × (In P W (get_or L h 0 / most_settings))
   unfolding b
   head_is =

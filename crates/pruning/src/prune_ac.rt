@@ -44,6 +44,7 @@ fn lower_set(
 }
 
 // The same for n fields: a small sheet has none past the first 8 or 12.
+#[tactic(auto, using(crate::specs::PruneTurn::enough_lowered))]
 fn lower_fields(
     d: &[u32; FIELDS],
     none: &mut [u32; FIELDS],

@@ -119,7 +119,8 @@ module _ (P : Problem) (W : ℕ) where
 
         -- and what closing leaves after it is the closing
         pub narrowed_then : (wiped : Bool) (more rest : ℕ) (Q K : List ℕ) (u : ℕ) (E : List ℕ)
-            → Pruned P W S D L t C wiped more rest Q K u E → Pruned P W S D1 L1 t1 C1 wiped (bit_or changed more) (bit_or spent rest) Q K u E
+            → Pruned P W S D L t C wiped more rest Q K u E
+            → Pruned P W S D1 L1 t1 C1 wiped (bit_or changed more) (bit_or spent rest) Q K u E
         narrowed_then wiped more rest Q K u E q =
             let same : closing P W D ≡ closing P W D1 = ap (closing P W) (p.closes.made refl) ∙ closing_of_rules P W D1 in
             record {

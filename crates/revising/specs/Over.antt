@@ -72,7 +72,8 @@ module _ (n : ℕ) (joined forward turned T : List ℕ) (wired : Wired n joined 
     made = dropped-revised n T x t l wired.few joined forward turned W D near none r
         ∙ ap (λ (R : Triple). revised P W R D) (sym (triple-is n joined forward turned T t l))
 
-    pub drop-asks : (length D ≡ most_fields) × Small D × (near < 2 ^ most_fields) × (length L ≡ list_places) × (tail + count D ≤ list_places)
+    pub drop-asks : (length D ≡ most_fields) × Small D × (near < 2 ^ most_fields) × (length L ≡ list_places)
+        × (tail + count D ≤ list_places)
     drop-asks = (e.sized, e.small, lt_of_le_of_lt (within-le near W near-inside) small-fields, e.places, e.room)
 
     module _ (lost : ℕ) (Q K : List ℕ) (u : ℕ) where

@@ -96,7 +96,8 @@ module _ (n : ℕ) (T : List ℕ) (x : TripleTable n T) (t : ℕ) (l : t < tripl
       (free_mask T W D (triple_in T t).third) 0 first second third
       → Revision T t W D
       (bit_and (bit_or (bit_or (2 ^ (triple_in T t).first) (2 ^ (triple_in T t).second)) (2 ^ (triple_in T t).third)) W)
-      (set (set (set N (triple_in T t).first (bit_xor (get_or D (triple_in T t).first 0) (bit_and (get_or D (triple_in T t).first 0) first)))
+      (set (set (set N (triple_in T t).first (bit_xor (get_or D (triple_in T t).first 0)
+      (bit_and (get_or D (triple_in T t).first 0) first)))
       (triple_in T t).second (bit_xor (get_or D (triple_in T t).second 0) (bit_and (get_or D (triple_in T t).second 0) second)))
       (triple_in T t).third (bit_xor (get_or D (triple_in T t).third 0) (bit_and (get_or D (triple_in T t).third 0) third)))
   unfolding has
@@ -106,12 +107,14 @@ module _ (n : ℕ) (T : List ℕ) (x : TripleTable n T) (t : ℕ) (l : t < tripl
     third = third;
     support = s;
     near-is = near_bits W;
-    none_first = λ v. ap (λ (m : ℕ). bit m v) (get_or-set_other N2 k i z 0 (λ e. omega arith) ∙ get_or-set_other N1 j i y 0 (λ e. omega arith)
+    none_first = λ v. ap (λ (m : ℕ). bit m v) (get_or-set_other N2 k i z 0 (λ e. omega arith)
+        ∙ get_or-set_other N1 j i y 0 (λ e. omega arith)
         ∙ get_or-set_same N i w 0 (omega arith)) ∙ without-kept (get_or D i 0) first v;
     none-second = λ v. ap (λ (m : ℕ). bit m v) (get_or-set_other N2 k j z 0 (λ e. omega arith)
         ∙ get_or-set_same N1 j y 0 (let a = length-set N i w in omega arith)) ∙ without-kept (get_or D j 0) second v;
     none-third = λ v. ap (λ (m : ℕ). bit m v)
-        (get_or-set_same N2 k z 0 (let a = length-set N i w in let b = length-set N1 j y in omega arith)) ∙ without-kept (get_or D k 0) third v;
+        (get_or-set_same N2 k z 0 (let a = length-set N i w in let b = length-set N1 j y in omega arith))
+        ∙ without-kept (get_or D k 0) third v;
   }
     where
       i : ℕ
@@ -144,7 +147,8 @@ module _ (n : ℕ) (T : List ℕ) (x : TripleTable n T) (t : ℕ) (l : t < tripl
       → lower ≡ free_mask T W D i → middle ≡ free_mask T W D j → upper ≡ free_mask T W D k
       → Supported3 T (triple_rows t) lower middle upper 0 first second third → a ≡ 2 ^ i → b ≡ 2 ^ j → c ≡ 2 ^ k
       → Revision T t W D (bit_and (bit_or (bit_or a b) c) W)
-      (set (set (set N i (bit_xor (get_or D i 0) (bit_and (get_or D i 0) first))) j (bit_xor (get_or D j 0) (bit_and (get_or D j 0) second)))
+      (set (set (set N i (bit_xor (get_or D i 0) (bit_and (get_or D i 0) first))) j (bit_xor (get_or D j 0)
+      (bit_and (get_or D j 0) second)))
       k (bit_xor (get_or D k 0) (bit_and (get_or D k 0) third)))
   unfolding triple_in
   revision_of W D N i j k lower middle upper first second third a b c long ei ej ek el em eu s ea eb ec =

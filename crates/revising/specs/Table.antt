@@ -21,7 +21,8 @@ use Rattle.revising.specs.Support.{or-old, or_new, not_taken}
 unfoldable pub free_mask : List ℕ → ℕ → List ℕ → ℕ → ℕ
 free_mask T W D g = cond (bit W g) (bit_and (get_or D g 0) (get_or T (1 + g) 0)) (get_or T (1 + g) 0)
 
-pub free-inside : (T : List ℕ) (W : ℕ) (D : List ℕ) (g : ℕ) → bit W g ≡ true → free_mask T W D g ≡ bit_and (get_or D g 0) (get_or T (1 + g) 0)
+pub free-inside : (T : List ℕ) (W : ℕ) (D : List ℕ) (g : ℕ) → bit W g ≡ true
+    → free_mask T W D g ≡ bit_and (get_or D g 0) (get_or T (1 + g) 0)
 unfolding free_mask
 free-inside T W D g e = rw e
 
@@ -33,11 +34,13 @@ pub free-within : (T : List ℕ) (W : ℕ) (D : List ℕ) (g : ℕ) → Within (
 unfolding free_mask
 free-within T W D g u = go (bit W g)
   where
-    go : (b : Bool) → bit (cond b (bit_and (get_or D g 0) (get_or T (1 + g) 0)) (get_or T (1 + g) 0)) u ≡ true → bit (get_or T (1 + g) 0) u ≡ true
+    go : (b : Bool) → bit (cond b (bit_and (get_or D g 0) (get_or T (1 + g) 0)) (get_or T (1 + g) 0)) u ≡ true
+        → bit (get_or T (1 + g) 0) u ≡ true
     go true e = and_r (bit (get_or D g 0) u) _ (sym (bit-and (get_or D g 0) (get_or T (1 + g) 0) u) ∙ e)
     go false e = e
 
-pub free-small : (n : ℕ) (T : List ℕ) (W : ℕ) (D : List ℕ) (g : ℕ) → TripleTable n T → g < most_fields → free_mask T W D g < 2 ^ most_settings
+pub free-small : (n : ℕ) (T : List ℕ) (W : ℕ) (D : List ℕ) (g : ℕ) → TripleTable n T → g < most_fields
+    → free_mask T W D g < 2 ^ most_settings
 free-small n T W D g x h = lt_of_le_of_lt (within-le _ _ (free-within T W D g)) (x.small g h)
 
 module _ (n : ℕ) (joined forward turned T : List ℕ) (W : ℕ) (D : List ℕ) (g : ℕ) (h : g < most_fields) where
@@ -74,7 +77,8 @@ FieldsBelow n fields = (f : ℕ) → bit fields f ≡ true → f < n
 
 pub record Touching (T : List ℕ) (fields left some : ℕ) : Type 0 where
   pub at : (t : ℕ) → bit some t ≡ true → (t < triple_count T) × ((f : ℕ) × (bit fields f ≡ true) × (has_field (triple_in T t) f ≡ true))
-  pub by : (f t : ℕ) → bit left f ≡ false → bit fields f ≡ true → t < triple_count T → has_field (triple_in T t) f ≡ true → bit some t ≡ true
+  pub by : (f t : ℕ) → bit left f ≡ false → bit fields f ≡ true → t < triple_count T → has_field (triple_in T t) f ≡ true
+      → bit some t ≡ true
 
 module _ (T : List ℕ) (fields : ℕ) where
   -- there are none

@@ -94,6 +94,7 @@ pub fn no_selection(outline: Outline, selected: u32) -> bool
 }
 
 // Whether a session is malformed.
+#[tactic(auto, using(crate::proofs::Counts::too_many))]
 pub fn malformed(outline: Outline, session: Session) -> bool
     requires { outline.fields ≤ most_fields }
     ensures { result ≡ malformed outline (view session) }

@@ -1,3 +1,5 @@
+pub mod CallAgrees
+pub mod EveryCall
 pub mod Inner
 pub mod Outer
 pub mod RoundTrips

@@ -1,4 +1,3 @@
 pub mod Turns
 pub mod Follows
-pub mod CallAgrees
 pub mod EveryCall

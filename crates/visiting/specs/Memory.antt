@@ -1,7 +1,8 @@
 -- The words of the memory: where the masks of a setting stand, whether a set holds them all, and masks stored. Assumes nothing.
 use Rattle.std.specs.Prelude.{◌≡◌, ◌↔◌, ◌⊎◌, ◌&&◌, List, ltb, length, take, drop}
 use Rattle.std.proofs.Math.Path.{refl, sym}
-use Rattle.std.proofs.Common.{ap, ◌∙◌, inl, inr, eq-or-lt_of_le, le_of_suc-le-suc, arith, length-take, length-drop, get_or-take, get_or-drop, ext_get_or}
+use Rattle.std.proofs.Common.{ap, ◌∙◌, inl, inr, eq-or-lt_of_le, le_of_suc-le-suc, arith, length-take, length-drop, get_or-take}
+use Rattle.std.proofs.Common.{get_or-drop, ext_get_or}
 use Rattle.std.proofs.Math.Logic.{⊎_elim}
 use Rattle.std.proofs.Math.Bool.{not}
 use Prim.Native.Nat.{ℕ, zero, suc, ◌+◌, ◌-◌, ◌*◌, ◌^◌, ◌≤◌, ◌<◌}
@@ -66,7 +67,8 @@ module _ (M : List ℕ) (base : ℕ) (S : List ℕ) where
   module _ (words : (h : ℕ) → h < most_fields → get_or M (base + h) 0 < 2 ^ 32) (small : (h : ℕ) → get_or S h 0 < 2 ^ most_settings) where
     -- the positions of mask i that the set lacks
     lacks : (i v : ℕ) → i < most_fields
-        → bit (bit_and (get_or M (base + i) 0) (2 ^ 32 - 1 - get_or S i 0)) v ≡ (bit (get_or M (base + i) 0) v && not (bit (get_or S i 0) v))
+        → bit (bit_and (get_or M (base + i) 0) (2 ^ 32 - 1 - get_or S i 0)) v
+        ≡ (bit (get_or M (base + i) 0) v && not (bit (get_or S i 0) v))
     lacks i v l = bit-and-not 32 (get_or M (base + i) 0) (get_or S i 0) v (words i l) (let m = small i in omega arith)
 
     lack_at : (i : ℕ) → i ≤ most_fields → lack_below i M base S ≡ 0 → (h : ℕ) → h < i → Within (get_or M (base + h) 0) (get_or S h 0)
@@ -115,7 +117,8 @@ module _ (M0 : List ℕ) (base : ℕ) (t : List ℕ) where
         ext_get_or 0 (recall M base) t (n ∙ sym l)
         (λ h i. let j : h < most_fields = rw n at i in recall-at M base h j ∙ s.here h j ∙ words_of-at t h)
 
-    pub recall-other : (a : ℕ) → a + most_fields ≤ length M0 → ((a + most_fields ≤ base) ⊎ (base + most_fields ≤ a)) → recall M a ≡ recall M0 a
+    pub recall-other : (a : ℕ) → a + most_fields ≤ length M0 → ((a + most_fields ≤ base) ⊎ (base + most_fields ≤ a))
+        → recall M a ≡ recall M0 a
     recall-other a k d =
         let n = recall-length M a (let z = s.sized in omega arith) in
         ext_get_or 0 (recall M a) (recall M0 a) (n ∙ sym (recall-length M0 a k))

@@ -168,6 +168,7 @@ module _ (P : Problem) where
       : Type 0 where
     pub passed : passing r ≡ passes_over P (get_or hood f 0) S f v
     pub store : Store hood S known' M'
-    pub kept : remembers ≡ true → passing r ≡ true → (has known' f v ≡ true) × (recall M' (place_of f v) ≡ left_in P (get_or hood f 0) S f v)
+    pub kept : remembers ≡ true → passing r ≡ true
+        → (has known' f v ≡ true) × (recall M' (place_of f v) ≡ left_in P (get_or hood f 0) S f v)
     pub recalled : (is_recalled r ≡ true) ↔ Recallable remembers known M f v S
     pub untouched : is_recalled r ≡ true → (known' ≡ known) × (M' ≡ M) × (copy' ≡ copy) × (list' ≡ list)

@@ -32,7 +32,7 @@ const STATEMENTS: &[(&str, &str)] = &[
     ("theorem/proofs/Outer.antt", "withdraw-strike_public back_public coil_on_public"),
     ("theorem/proofs/RoundTrips.antt", "read-answered write-answered every-read every-write read_public write_public"),
     ("theorem/proofs/RoundTrips.antt", "read-exact read-then-write read-then-refused write-then-read write-retired retired-write"),
-    ("belaykeel_offers/specs/Page.antt", "page_of_input"),
+    ("belaykeel_offers/proofs/WholeInput.antt", "page_of_input"),
     ("printing/specs/Decimal.antt", "decimal-digits decimal-value decimal-first"),
     ("printing/specs/Offered.antt", "offered-rising offered-has offered-only"),
     ("cases/specs/Table.antt", "cases_hold"),

@@ -121,6 +121,7 @@ fn a_public_function_has_its_types_and_its_contract() {
     let source = Source::rt(CODE);
     assert_eq!(source.imports["Answer"], ("a::b".to_string(), "Answer".to_string()));
     assert_eq!(source.imports["three"], ("A.C".to_string(), "two".to_string()));
+    assert_eq!(source.imports["four"], ("c".to_string(), "four".to_string()));
     let of = |name: &str| source.declarations.iter().find(|declaration| declaration.name == name).map(mentioned);
     assert_eq!(of("read").unwrap(), ["u8", "mut", "u8", "Answer", "P", "Gives", "q"]);
     assert!(of("other").is_none());

@@ -1,14 +1,11 @@
 use mathlib.Core.Path.{sym}
 use native.Mathlib.Omega.{arith}
 use Rattle.masks.proofs.Words.{clear-lt}
-use Rattle.engines.specs.PutBack.{back_none, back_all, back-others, changed-low, backing_start, backing_turn, backing_end}
+use Rattle.engines.specs.PutBack.{back_none, back-others, changed-low, backing_start, backing_turn, backing_end}
 use Rattle.engines.proofs.queue.put_back.Goals as goal
 
 pub returns-then-changed-eq0 : goal.returns-then-changed-eq0
 returns-then-changed-eq0 c = sym (back_none _ _ _ _ _ _ c.if-changed-eq0.true)
-
-pub returns-then-net-ge-WHOLE_REACH : goal.returns-then-net-ge-WHOLE_REACH
-returns-then-net-ge-WHOLE_REACH c = sym (back_all _ _ _ _ _ _ c.if-changed-eq0.false (omega arith))
 
 pub loop-left-init : goal.loop-left-init
 loop-left-init c = backing_start _ _ _ _ _ c.requires

@@ -1,4 +1,5 @@
 use mathlib.Core.Path.{refl, ◌∙◌}
+use native.Mathlib.Omega.{arith}
 use Rattle.pruning.specs.Shrunk.{shrunk_fewer}
 use Rattle.visiting.specs.Store.{store-start}
 use Rattle.engines.specs.Engine.{kept-start, kept_then, kept-wiped, begun-engine, engine-none, engine-done}
@@ -32,17 +33,17 @@ returns-then-r c =
     let begun = rw c.if-begin.false at c.begin.ensures.0 in
     engine-none _ _ _ _ _ begun (kept-wiped _ _ _ c.loop-net.invariant.0.1 (c.pass-r.ensures.0.none c.if-r.true))
 
-pub returns-then-r-eq0 : goal.returns-then-r-eq0
-returns-then-r-eq0 c =
+pub returns-then-same : goal.returns-then-same
+returns-then-same c =
     let begun = rw c.if-begin.false at c.begin.ensures.0 in
     let p = c.pass-r.ensures.0 in
     let e = c.if-r.false in
-    engine-done _ _ _ _ _ begun (kept_then _ _ _ c.loop-net.invariant.0.1 (p.kept e)) (p.done e c.if-r-eq0.true)
+    engine-done _ _ _ _ _ begun (kept_then _ _ _ c.loop-net.invariant.0.1 (p.kept e)) (p.done e (omega arith))
 
 pub loop-net-smaller : goal.loop-net-smaller
 loop-net-smaller c =
     let p = c.pass-r.ensures.0 in
-    shrunk_fewer (p.kept c.if-r.false).shrunk c.if-r-eq0.false
+    shrunk_fewer (p.kept c.if-r.false).shrunk (λ z. omega arith)
 
 pub loop-net-preserved : goal.loop-net-preserved
 loop-net-preserved c =

@@ -1,0 +1,2 @@
+-- What the check cites by itself of `judging`.
+pub mod Counts
