@@ -61,7 +61,8 @@ pub fn drop(
                     tail: t,
                 };
             }
-            lost |= one_bit(i);
+            let field = one_bit(i);
+            lost |= field;
         }
     }
     AfterDrop {

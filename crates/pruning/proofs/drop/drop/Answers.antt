@@ -38,7 +38,7 @@ loop-left-smaller-then-gone-ne0 c =
 pub loop-left-preserved-then-gone-ne0 : goal.loop-left-preserved-then-gone-ne0
 loop-left-preserved-then-gone-ne0 c =
     let m = c.move_out-t.ensures in
-    rw (c.clear_bit-left.ensures, c.one_bit-lost.ensures)
+    rw (c.clear_bit-left.ensures, c.one_bit-field.ensures)
     (dropping_turn _ _ _ _ _ _ _ _ _ _ _ _ c.loop-left.invariant c.lowest_bit-i.ensures.0.set refl
     _ _ _ m.0 m.1 c.if-gone-ne0.true c.if-d-i-eq0.false)
 
