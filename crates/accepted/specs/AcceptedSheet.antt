@@ -1,5 +1,5 @@
 -- An accepted list is the numbers of a right sheet. Assumes nothing.
-use Rattle.std.specs.Prelude.{◌≡◌, refl, List, [], ◌∷◌, ◌++◌, ℕ, ◌<◌, ◌≤◌, ltb, leb, length, get_or}
+use Rattle.std.specs.Prelude.{◌≡◌, refl, List, [], ◌∷◌, ◌++◌, ℕ, ◌<◌, ◌≤◌, ltb, leb, length, get_or, Ok}
 use Rattle.std.proofs.Common.{sym, ap, ap₂, ◌∙◌, inl, inr, zero-add, arith, lt-ltb, leb-true}
 use Rattle.masks.specs.Pick.{pick_true}
 use Rattle.limits.specs.Limits.{most_fields, whole_reach, most_rules}
@@ -65,7 +65,7 @@ pub sheet-in : (xs : List ℕ) → Accepted xs → IsSheet xs
 unfolding refusal_from advance
 sheet-in [] e = absurd (omega arith)
 sheet-in (n ∷ ys) e =
-    let r = ranged_in _ (Wants n (Count 0)) no_counts (of_numbers ys) e in
+    let r = ranged_in _ (Ok (Wants n (Count 0))) no_counts (of_numbers ys) e in
     let b = up_to-le most_fields n r.0 in
     let t =
     fields_in n 0 n no_counts ys (zero-add n) b.1

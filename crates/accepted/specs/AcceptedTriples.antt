@@ -1,5 +1,5 @@
 -- The triples of an accepted list: what it has after its rules. Assumes nothing.
-use Rattle.std.specs.Prelude.{◌≡◌, refl, true, List, [], ◌∷◌, ℕ, zero, suc, ◌+◌, ◌-◌, ◌<◌, ◌≤◌, ltb, leb, eqb, length}
+use Rattle.std.specs.Prelude.{◌≡◌, refl, true, List, [], ◌∷◌, ℕ, zero, suc, ◌+◌, ◌-◌, ◌<◌, ◌≤◌, ltb, leb, eqb, length, Ok}
 use Rattle.std.proofs.Common.{ap, ap₂, sym, ◌∙◌, ⊎_elim, arith, leb-true, ltb-true, eqb-true}
 use Rattle.std.proofs.lemmas.Bool.{eqb-false}
 use Rattle.limits.specs.Limits.{largest_setting, most_triples}
@@ -113,6 +113,6 @@ pub part_in : (n : ℕ) (ds ys : List ℕ) → refusal_from (Wants n Triples) ds
 unfolding refusal_from advance triples_part
 part_in n ds [] e = record { triples = []; split = refl; few = omega arith; tripled = tripled-none }
 part_in n ds (x ∷ ys) e =
-    let r = ranged_in _ (after_triple n x 0) ds (of_numbers ys) e in
+    let r = ranged_in _ (Ok (after_triple n x 0)) ds (of_numbers ys) e in
     let b = up_to-le most_triples x r.0 in
     part_of x n ys b.0 b.1 (triples_in x 0 n ds ys r.1)

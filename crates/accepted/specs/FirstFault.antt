@@ -1,30 +1,30 @@
 -- What the writer refuses beside what the grammar refuses: a list whose first fault is the retired kind. Assumes nothing.
-use Rattle.std.specs.Prelude.{◌≡◌, refl, true, false, List, [], ◌∷◌, ◌++◌, ℕ}
+use Rattle.std.specs.Prelude.{◌≡◌, refl, true, false, List, [], ◌∷◌, ◌++◌, ℕ, Result, Ok, Err}
 use Rattle.std.proofs.Common.{sym, ap, ◌∙◌, ⊎_elim, arith, eqb-true}
 use Rattle.std.proofs.lemmas.Bool.{false≢true}
 use Rattle.masks.specs.Pick.{pick_true, pick-false}
 use Rattle.masks.specs.Tests.{not_so, bool_cases, or_r}
 use Rattle.limits.specs.Limits.{retired_kind}
 use Rattle.limits.specs.Refusals.{RETIRED}
+use Rattle.limits.specs.declared.refusals.Refusal.{Refusal}
 use Rattle.grammar.specs.Grammar.{advance, start, no_counts}
 use Rattle.grammar.specs.declared.grammar.Expected.{Expected}
 use Rattle.grammar.specs.declared.grammar.Expected.TheVariants.{Fields, Count, Setting, Reach, Rules, First, Second, Kind, Mask, Amount}
 use Rattle.grammar.specs.declared.grammar.Expected.TheVariants.{Triples, TripleFirst, TripleSecond, TripleThird, TripleAmount}
 use Rattle.grammar.specs.declared.grammar.State.{State}
-use Rattle.grammar.specs.declared.grammar.State.TheVariants.{Wants, Complete, OutOfRange, OutOfOrder}
-use Rattle.sheet.specs.Sources.{meets, refusal, of_numbers, is_retired, retired_from, retired, writer_refusal, Accepted, Writable}
+use Rattle.grammar.specs.declared.grammar.State.TheVariants.{Wants, Complete}
+use Rattle.sheet.specs.Sources.{led, refusal, of_numbers, is_retired, retired_from, retired_after, retired, writer_refusal}
+use Rattle.sheet.specs.Sources.{Accepted, Writable}
 use Rattle.sheet.specs.Retired.{retired-on}
 use Rattle.accepted.specs.Refused.{refusal-few}
 
 -- ---- the first fault
 
 -- where the grammar is after some numbers: a refused one, and what follows the last triple, lead no further
-unfoldable pub leads : State → List ℕ → List ℕ → State
-leads st ds [] = st
-leads (Wants n e) ds (x ∷ xs) = leads (advance n e ds x).0 (advance n e ds x).1 xs
-leads Complete ds (x ∷ xs) = Complete
-leads OutOfRange ds (x ∷ xs) = OutOfRange
-leads OutOfOrder ds (x ∷ xs) = OutOfOrder
+unfoldable pub leads : State → List ℕ → List ℕ → Result State Refusal
+leads st ds [] = Ok st
+leads (Wants n e) ds (x ∷ xs) = led (advance n e ds x).0 (λ t. leads t (advance n e ds x).1 xs) (λ r. Err r)
+leads Complete ds (x ∷ xs) = Ok Complete
 
 -- Of the numbers from a state on, the first at fault is the retired kind: those before it lead to where a kind is expected, with no
 -- retired kind among them.
@@ -36,7 +36,7 @@ pub record FirstRetired (st : State) (ds xs : List ℕ) : Type 0 where
   pub rules : ℕ
   pub i : ℕ
   pub j : ℕ
-  pub expected : leads st ds front ≡ Wants fields (Kind rules i j)
+  pub expected : leads st ds front ≡ Ok (Wants fields (Kind rules i j))
   pub none_before : retired_from st ds front ≡ false
 
 -- The first fault of a list is the retired kind.
@@ -72,20 +72,31 @@ here n (TripleSecond triples floor i) ds x xs h = absurd (false≢true h)
 here n (TripleThird triples floor i j) ds x xs h = absurd (false≢true h)
 here n (TripleAmount triples floor) ds x xs h = absurd (false≢true h)
 
-later : (n : ℕ) (e : Expected) (ds : List ℕ) (x : ℕ) (xs : List ℕ) → is_retired e x ≡ false
-    → FirstRetired (advance n e ds x).0 (advance n e ds x).1 xs → FirstRetired (Wants n e) ds (x ∷ xs)
+later : (n : ℕ) (e : Expected) (ds : List ℕ) (x : ℕ) (xs : List ℕ) (t : State) → is_retired e x ≡ false → (advance n e ds x).0 ≡ Ok t
+    → FirstRetired t (advance n e ds x).1 xs → FirstRetired (Wants n e) ds (x ∷ xs)
 unfolding leads retired_from
-later n e ds x xs h t = record {
-  front = x ∷ t.front;
-  back = t.back;
-  split = ap (λ (l : List ℕ). x ∷ l) t.split;
-  fields = t.fields;
-  rules = t.rules;
-  i = t.i;
-  j = t.j;
-  expected = t.expected;
-  none_before = retired-on n e ds x t.front h ∙ t.none_before;
+later n e ds x xs t h a f = record {
+  front = x ∷ f.front;
+  back = f.back;
+  split = ap (λ (l : List ℕ). x ∷ l) f.split;
+  fields = f.fields;
+  rules = f.rules;
+  i = f.i;
+  j = f.j;
+  expected =
+      ap (λ (l : Result State Refusal). led l (λ u. leads u (advance n e ds x).1 f.front) (λ r. Err r)) a ∙ f.expected;
+  none_before =
+      retired-on n e ds x f.front h
+      ∙ ap (λ (l : Result State Refusal). retired_after l (advance n e ds x).1 f.front) a ∙ f.none_before;
 }
+
+-- a number leads on to where the retired kind is met
+later-led : (n : ℕ) (e : Expected) (ds : List ℕ) (x : ℕ) (xs : List ℕ) (l : Result State Refusal) → is_retired e x ≡ false
+    → (advance n e ds x).0 ≡ l
+    → ((t : State) → retired_from t (advance n e ds x).1 xs ≡ true → FirstRetired t (advance n e ds x).1 xs)
+    → retired_after l (advance n e ds x).1 xs ≡ true → FirstRetired (Wants n e) ds (x ∷ xs)
+later-led n e ds x xs (Ok t) h a f m = later n e ds x xs t h a (f t m)
+later-led n e ds x xs (Err r) h a f m = absurd (false≢true m)
 
 -- the retired kind is met: it is the first fault
 met-first : (st : State) (ds xs : List ℕ) → retired_from st ds xs ≡ true → FirstRetired st ds xs
@@ -93,26 +104,27 @@ unfolding retired_from
 met-first st ds [] h = absurd (false≢true h)
 met-first (Wants n e) ds (x ∷ xs) h =
     ⊎_elim (λ q. here n e ds x xs q)
-    (λ q. later n e ds x xs q (met-first (advance n e ds x).0 (advance n e ds x).1 xs (sym (retired-on n e ds x xs q) ∙ h)))
+    (λ q. later-led n e ds x xs (advance n e ds x).0 q refl (λ t. met-first t (advance n e ds x).1 xs)
+    (sym (retired-on n e ds x xs q) ∙ h))
     (bool_cases (is_retired e x))
 met-first Complete ds (x ∷ xs) h = absurd (false≢true h)
-met-first OutOfRange ds (x ∷ xs) h = absurd (false≢true h)
-met-first OutOfOrder ds (x ∷ xs) h = absurd (false≢true h)
-
--- the refusal of one more number, 0 where it is expected
-abbrev surplus : State → ℕ
-surplus st = meets st (λ n e. 0)
 
 -- where a kind is expected after some numbers, and it is the retired one, that one is met
-first-met : (st : State) (ds front back : List ℕ) (n rules i j : ℕ) → leads st ds front ≡ Wants n (Kind rules i j)
+led-met : (l : Result State Refusal) (st : State) (ds front xs : List ℕ)
+    → ((t : State) → leads t ds front ≡ Ok st → retired_from t ds xs ≡ true)
+    → led l (λ t. leads t ds front) (λ r. Err r) ≡ Ok st → retired_after l ds xs ≡ true
+led-met (Ok t) st ds front xs f h = f t h
+led-met (Err r) st ds front xs f h = let z : ◌≡◌ {A = ℕ} 0 1 = cc in absurd (omega arith)
+
+first-met : (st : State) (ds front back : List ℕ) (n rules i j : ℕ) → leads st ds front ≡ Ok (Wants n (Kind rules i j))
     → retired_from st ds (front ++ (retired_kind ∷ back)) ≡ true
 unfolding leads retired_from
-first-met st ds [] back n rules i j h = rw h
+first-met st ds [] back n rules i j h = let e : st ≡ Wants n (Kind rules i j) = cc in rw e
 first-met (Wants m e) ds (x ∷ front) back n rules i j h =
-    or_r (is_retired e x) _ (first-met (advance m e ds x).0 (advance m e ds x).1 front back n rules i j h)
-first-met Complete ds (x ∷ front) back n rules i j h = absurd (omega (arith, ap surplus h))
-first-met OutOfRange ds (x ∷ front) back n rules i j h = absurd (omega (arith, ap surplus h))
-first-met OutOfOrder ds (x ∷ front) back n rules i j h = absurd (omega (arith, ap surplus h))
+    or_r (is_retired e x) _
+    (led-met (advance m e ds x).0 (Wants n (Kind rules i j)) (advance m e ds x).1 front (front ++ (retired_kind ∷ back))
+    (λ t. first-met t (advance m e ds x).1 front back n rules i j) h)
+first-met Complete ds (x ∷ front) back n rules i j h = let z : ◌≡◌ {A = ℕ} 0 1 = cc in absurd (omega arith)
 
 -- ---- what the writer refuses by 20, and what it writes
 

@@ -1,6 +1,6 @@
 -- The outline of a sheet: how many fields it has, and the set of all its settings. Assumes nothing.
-use Rattle.std.specs.Prelude.{◌≡◌, true, false, ◌&&◌, List, ℕ, ◌+◌, ◌-◌, ◌*◌, ◌%◌, ◌^◌, ◌≤◌, ◌<◌, length, get_or, set, replicate}
-use Rattle.std.proofs.Common.{sym, ap, ◌∙◌, pow_pos, ltb-true, ltb-false}
+use Rattle.std.specs.Prelude.{◌≡◌, true, false, ◌&&◌, List, ℕ, ◌+◌, ◌-◌, ◌≤◌, ◌<◌, length, get_or, set, replicate}
+use Rattle.std.proofs.Common.{ap, ◌∙◌, ltb-true, ltb-false}
 use Rattle.std.proofs.Math.Logic.{⊎_elim}
 use Rattle.std.proofs.Math.Bool.{and-true}
 use native.Mathlib.Omega.{arith}
@@ -8,9 +8,8 @@ use Rattle.std.proofs.Math.Dec.{ltb}
 use Rattle.limits.specs.Limits.{most_fields, most_settings}
 use Rattle.masks.specs.Tests.{bool_cases}
 use Rattle.masks.proofs.Bits.{bit_of-zero}
-use Rattle.masks.specs.Masks.{mask_of, mask_of_all}
+use Rattle.masks.specs.Masks.{mask_of}
 use Rattle.masks.proofs.Masks.{bit-mask_of}
-use Rattle.masks.proofs.Words.{one_shl}
 use Rattle.masks.specs.Sets.{has, pad, get_d_pad}
 use Rattle.sheet.specs.Sources.{Accepted}
 use Rattle.accepted.specs.declared.outline.Outline.{Outline}
@@ -26,13 +25,6 @@ settings_of xs f = mask_of (count_of xs f) (λ v. true)
 unfoldable pub outline_of : List ℕ → Outline
 outline_of xs =
     record { fields = fields_of xs; full = pad (most_fields - fields_of xs) (tabulate (fields_of xs) (settings_of xs)) }
-
--- every position, as code spells it
-pub positions-code : (d : ℕ) → d ≤ most_settings → (1 ≤ 1 * 2 ^ d % 2 ^ 32) × (1 * 2 ^ d % 2 ^ 32 - 1 ≡ mask_of d (λ v. true))
-positions-code d h =
-    let e : 1 * 2 ^ d % 2 ^ 32 ≡ 2 ^ d = one_shl 32 d (omega arith) in
-    let p = pow_pos d in
-    (omega arith, ap (λ (n : ℕ). n - 1) e ∙ sym (mask_of_all d))
 
 module _ (xs : List ℕ) where
   pub outline-few : Accepted xs → (outline_of xs).fields ≤ most_fields

@@ -90,7 +90,7 @@ triple_allows xs t a b d =
     even_draft (triple_number xs t) (setting_of xs (triple_first xs t) a) (setting_of xs (triple_second xs t) b)
     (setting_of xs (triple_third xs t) d)
 
--- ---- what an accessor requires
+-- ---- a part that stands at a place
 
 -- field f of a sheet
 pub record Field (xs : List ℕ) (f : ℕ) : Type 0 where

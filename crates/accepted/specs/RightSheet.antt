@@ -1,12 +1,13 @@
 -- The numbers of a right sheet are accepted, and the writer refuses them where a rule has the retired kind. Assumes nothing.
 use Rattle.std.specs.Prelude.{◌≡◌, refl, Bool, true, false, ◌&&◌, ◌||◌, List, [], ◌∷◌, ◌++◌, ℕ, zero, suc, ◌+◌, ◌-◌, ◌^◌, ◌<◌, ◌≤◌, ltb}
-use Rattle.std.specs.Prelude.{eqb, length, get_or, set}
+use Rattle.std.specs.Prelude.{eqb, length, get_or, set, Result}
 use Rattle.std.proofs.Common.{sym, ap, ap₂, ◌∙◌, inl, inr, append_assoc, add-zero, zero-add, arith, length-set, get_or-set_same}
 use Rattle.std.proofs.Common.{get_or-set_other, lt-ltb, le-ltb, le-leb, eq-eqb, ne_eqb}
 use Rattle.masks.specs.Pick.{pick, pick_true, pick-false}
 use Rattle.limits.specs.Limits.{most_fields, most_settings, largest_setting, whole_reach, most_rules, most_triples, last_kind, retired_kind}
+use Rattle.limits.specs.declared.refusals.Refusal.{Refusal}
 use Rattle.grammar.specs.Grammar.{advance, start, no_counts, up_to, after_field, after_rule, after_kind, key, after_triple, triple_key}
-use Rattle.sheet.specs.Sources.{refusal_from, of_numbers, retired_from}
+use Rattle.sheet.specs.Sources.{refusal_from, refusal_after, of_numbers, retired_from, retired_after}
 use Rattle.accepted.specs.Sheets.{Rule, Sheet, fields_numbers, rules_numbers, sheet_numbers, Rises, rises-none, rises-one, Below}
 use Rattle.accepted.specs.Sheets.{below_none, below_one, FieldRight, ValuesRight, RuleRight, Ruled, ruled-none, ruled-one, Right}
 use Rattle.accepted.specs.Sheets.{counted, retired_rules, Triple, triples_numbers, triples_part, TripleRight, key_of_triple}
@@ -20,6 +21,15 @@ use Rattle.grammar.specs.declared.grammar.State.TheVariants.{Wants, Complete}
 -- From a state on, with the counts ds: the numbers are accepted, and `met` says whether the retired kind is among them.
 abbrev Taken : State → List ℕ → List ℕ → Bool → Type 0
 Taken st ds xs met = (refusal_from st ds (of_numbers xs) ≡ 0) × (retired_from st ds xs ≡ met)
+
+-- so after a number
+abbrev TakenAfter : Result State Refusal → List ℕ → List ℕ → Bool → Type 0
+TakenAfter r ds xs met = (refusal_after r ds (of_numbers xs) ≡ 0) × (retired_after r ds xs ≡ met)
+
+-- a number in its range, or in its order
+within : {met : Bool} (t : Bool) (a b : Result State Refusal) (ds xs : List ℕ) → t ≡ true → TakenAfter a ds xs met
+    → TakenAfter (pick t a b) ds xs met
+within t a b ds xs e h = rw (pick_true t a b e) h
 
 -- a place that a test leads to
 to-true : {met : Bool} (t : Bool) (a b : State) (ds xs : List ℕ) → t ≡ true → Taken a ds xs met → Taken (pick t a b) ds xs met
@@ -44,11 +54,11 @@ settings-by : {met : Bool} (f left floor n : ℕ) (ds zs rest : List ℕ) → Ri
 unfolding refusal_from retired_from advance
 settings-by f left floor n ds zs rest rises-none e h = absurd (omega arith)
 settings-by f left floor n ds zs rest (rises-one {x = x} {xs = []} p q t) e h =
-    to-true _ _ _ ds rest (le-leb x largest_setting q)
-    (to-true _ _ _ ds rest (le-leb floor x p) (after_none left _ _ ds rest (omega arith) h))
+    within _ _ _ ds rest (le-leb x largest_setting q)
+    (within _ _ _ ds rest (le-leb floor x p) (after_none left _ _ ds rest (omega arith) h))
 settings-by f left floor n ds zs rest (rises-one {x = x} {xs = y ∷ ys} p q t) e h =
-    to-true _ _ _ ds (y ∷ ys ++ rest) (le-leb x largest_setting q)
-    (to-true _ _ _ ds (y ∷ ys ++ rest) (le-leb floor x p)
+    within _ _ _ ds (y ∷ ys ++ rest) (le-leb x largest_setting q)
+    (within _ _ _ ds (y ∷ ys ++ rest) (le-leb floor x p)
     (after_more left _ _ ds (y ∷ ys ++ rest) (omega arith)
     (settings-by f (left - 1) (x + 1) n ds (y ∷ ys) rest t (omega arith) h)))
 
@@ -57,7 +67,7 @@ count_by : {met : Bool} (f n : ℕ) (ds z rest : List ℕ) → FieldRight z → 
 unfolding refusal_from retired_from advance
 count_by f n ds z rest r h =
     let p = r.some in
-    to-true _ _ _ (set ds f (length z)) (z ++ rest) (up_to-by most_settings (length z) p r.few)
+    within _ _ _ (set ds f (length z)) (z ++ rest) (up_to-by most_settings (length z) p r.few)
     (settings-by f (length z - 1) 0 n (set ds f (length z)) z rest r.rise (omega arith) h)
 
 -- the counts of fields from f on
@@ -106,9 +116,9 @@ masks-by {met} left floor j more n ds vs rest below size h = go more vs below si
         → Taken (Wants n (Mask left floor j more)) ds (vs ++ rest) met
     go more vs below_none e = absurd (omega arith)
     go more vs (below_one {x = x} {xs = []} p t) e =
-        to-true _ _ _ ds rest (lt-ltb x _ p) (after_none more _ _ ds rest (omega arith) h)
+        within _ _ _ ds rest (lt-ltb x _ p) (after_none more _ _ ds rest (omega arith) h)
     go more vs (below_one {x = x} {xs = y ∷ ys} p t) e =
-        to-true _ _ _ ds (y ∷ ys ++ rest) (lt-ltb x _ p)
+        within _ _ _ ds (y ∷ ys ++ rest) (lt-ltb x _ p)
         (after_more more _ _ ds (y ∷ ys ++ rest) (omega arith) (go (more - 1) (y ∷ ys) t (omega arith)))
 
 amount_by : {met : Bool} (left floor n : ℕ) (ds vs rest : List ℕ) → Below (largest_setting + 1) vs → length vs ≡ 1
@@ -117,7 +127,7 @@ amount_by : {met : Bool} (left floor n : ℕ) (ds vs rest : List ℕ) → Below 
 unfolding refusal_from retired_from advance
 amount_by left floor n ds vs rest below_none e h = absurd (omega arith)
 amount_by left floor n ds vs rest (below_one {x = x} {xs = []} p t) e h =
-    to-true _ _ _ ds rest (le-leb x largest_setting (omega arith)) h
+    within _ _ _ ds rest (le-leb x largest_setting (omega arith)) h
 amount_by left floor n ds vs rest (below_one {x = x} {xs = y ∷ ys} p t) e h = absurd (omega arith)
 
 values-by : {met : Bool} (left floor n : ℕ) (ds rest : List ℕ) (r : Rule) → 1 ≤ get_or ds r.i 0 → ValuesRight (d_of ds) r
@@ -138,11 +148,11 @@ rule-by left floor n ds rest r l g p h =
     let a = g.apart in
     let b = g.within in
     let taken =
-    to-true _ _ _ ds (r.values ++ rest) (le-leb r.kind last_kind g.kind-le)
+    within _ _ _ ds (r.values ++ rest) (le-leb r.kind last_kind g.kind-le)
     (values-by left (key r.i r.j + 1) n ds rest r p g.numbers h) in
-    to-true _ _ _ ds (r.j ∷ r.kind ∷ (r.values ++ rest)) (lt-ltb r.i n (omega arith))
-    (to-true _ _ _ ds (r.kind ∷ (r.values ++ rest)) (lt-ltb r.j n b)
-    (to-true _ _ _ ds (r.kind ∷ (r.values ++ rest)) (ap₂ ◌&&◌ (lt-ltb r.i r.j a) (le-leb floor (key r.i r.j) l))
+    within _ _ _ ds (r.j ∷ r.kind ∷ (r.values ++ rest)) (lt-ltb r.i n (omega arith))
+    (within _ _ _ ds (r.kind ∷ (r.values ++ rest)) (lt-ltb r.j n b)
+    (within _ _ _ ds (r.kind ∷ (r.values ++ rest)) (ap₂ ◌&&◌ (lt-ltb r.i r.j a) (le-leb floor (key r.i r.j) l))
     (taken.0, ap (λ (m : Bool). eqb r.kind retired_kind || m) taken.1)))
 
 rules-by : (floor n : ℕ) (ds rest : List ℕ) (rs : List Rule) → ((k : ℕ) → k < n → 1 ≤ get_or ds k 0) → Ruled n (d_of ds) floor rs
@@ -171,12 +181,12 @@ triple-by left floor n ds rest t l g h =
     let a = g.apart in
     let b = g.above in
     let w = g.within in
-    to-true _ _ _ ds (t.j ∷ t.k ∷ t.c ∷ rest) (lt-ltb t.i n (omega arith))
-    (to-true _ _ _ ds (t.k ∷ t.c ∷ rest) (lt-ltb t.j n (omega arith))
-    (to-true _ _ _ ds (t.k ∷ t.c ∷ rest) (lt-ltb t.i t.j a)
-    (to-true _ _ _ ds (t.c ∷ rest) (lt-ltb t.k n w)
-    (to-true _ _ _ ds (t.c ∷ rest) (ap₂ ◌&&◌ (lt-ltb t.j t.k b) (le-leb floor (triple_key t.i t.j t.k) l))
-    (to-true _ _ _ ds rest (le-leb t.c largest_setting g.amount_le) h)))))
+    within _ _ _ ds (t.j ∷ t.k ∷ t.c ∷ rest) (lt-ltb t.i n (omega arith))
+    (within _ _ _ ds (t.k ∷ t.c ∷ rest) (lt-ltb t.j n (omega arith))
+    (within _ _ _ ds (t.k ∷ t.c ∷ rest) (lt-ltb t.i t.j a)
+    (within _ _ _ ds (t.c ∷ rest) (lt-ltb t.k n w)
+    (within _ _ _ ds (t.c ∷ rest) (ap₂ ◌&&◌ (lt-ltb t.j t.k b) (le-leb floor (triple_key t.i t.j t.k) l))
+    (within _ _ _ ds rest (le-leb t.c largest_setting g.amount_le) h)))))
 
 triples-by : (floor n : ℕ) (ds : List ℕ) (ts : List Triple) → Tripled n floor ts
     → Taken (after_triple n (length ts) floor) ds (triples_numbers ts) false
@@ -197,7 +207,7 @@ part_by : (n : ℕ) (ds : List ℕ) (ts : List Triple) → length ts ≤ most_tr
 unfolding refusal_from retired_from advance triples_part
 part_by n ds [] few r = (refl, refl)
 part_by n ds (t ∷ ts) few r =
-    to-true _ _ _ ds (triples_numbers (t ∷ ts)) (up_to-by most_triples (length (t ∷ ts)) (omega arith) few) (triples-by 0 n ds (t ∷ ts) r)
+    within _ _ _ ds (triples_numbers (t ∷ ts)) (up_to-by most_triples (length (t ∷ ts)) (omega arith) few) (triples-by 0 n ds (t ∷ ts) r)
 
 -- The numbers of a right sheet are accepted, and the retired kind is among them where a rule has it.
 pub right-taken : (s : Sheet) → Right s → Taken start no_counts (sheet_numbers s) (retired_rules s.rules)
@@ -212,12 +222,12 @@ right-taken s g =
     λ k h. sym (ap (λ (i : ℕ). get_or ds i 0) (sym (zero-add k)) ∙ counts-after no_counts 0 fs k (omega arith) h) in
     let last = rules_numbers s.rules ++ triples_part s.triples in
     let rest = s.reach ∷ length s.rules ∷ last in
-    to-true _ _ _ no_counts (fields_numbers fs ++ rest) (up_to-by most_fields n p q)
+    within _ _ _ no_counts (fields_numbers fs ++ rest) (up_to-by most_fields n p q)
     (rw (pick_true (ltb 0 n) (Wants n (Count 0)) (Wants n Reach) (lt-ltb 0 n p)) at
     (fields-by fs 0 n no_counts rest g.field (zero-add n)
-    (to-true _ _ _ ds (length s.rules ∷ last)
+    (within _ _ _ ds (length s.rules ∷ last)
     (up_to-by whole_reach s.reach g.reach-some g.reach_few)
-    (to-true _ _ _ ds last (le-leb (length s.rules) most_rules g.rules-few)
+    (within _ _ _ ds last (le-leb (length s.rules) most_rules g.rules-few)
     (rules-by 0 n ds (triples_part s.triples) s.rules (λ k h. rw (← same k h) (g.field k h).some)
     (ruled-same n 0 (counted s) (d_of ds) s.rules same g.ruled)
     (part_by n ds s.triples g.triples-few g.tripled))))))

@@ -1,7 +1,7 @@
 -- There and back: bytes that are numbers are their numbers' bytes, and the bytes of numbers below 2 ^ 28 are read as those.
 -- Assumes nothing.
 use Rattle.std.specs.Prelude.{◌≡◌, refl, Bool, true, false, ◌&&◌, List, [], ◌∷◌, ◌++◌, ℕ, zero, suc, ◌+◌, ◌-◌, ◌*◌, ◌/◌, ◌%◌, ◌^◌, ◌<◌, ◌≤◌}
-use Rattle.std.specs.Prelude.{ltb, eqb, length, drop, get_or}
+use Rattle.std.specs.Prelude.{ltb, eqb, length, drop, get_or, Result, Ok, Err}
 use Rattle.std.proofs.Common.{sym, ap, ap₂, ◌∙◌, ⊎_elim, append_assoc, mul-add, mul_assoc, pow-suc, div-lt_iff_lt-mul, add-sub_cancel}
 use Rattle.std.proofs.Common.{arith, length-append, drop_of_length-le, drop-drop, lt-ltb, le-ltb, ltb-true, ltb-false, eqb-true}
 use Rattle.std.proofs.Math.Nat.{mod-add-div}
@@ -9,12 +9,12 @@ use Rattle.std.proofs.Math.Seq.{drop-append_seam}
 use Rattle.std.proofs.lemmas.Bool.{eqb-false}
 use Rattle.masks.specs.Pick.{pick_true, pick-false}
 use Rattle.groups.specs.Groups.{groups, number_at, encode_in, encode, encode-some, encode_in-last, encode_in-suc, groups-number}
-use Rattle.groups.specs.Groups.{groups_nothing}
-use Rattle.groups.specs.Groups.{groups-empty}
+use Rattle.groups.specs.Groups.{groups_nothing, groups-empty, found}
 use Rattle.groups.specs.declared.groups.Number.{Number}
-use Rattle.groups.specs.declared.groups.Number.TheVariants.{Value, Ended, IllFormed}
+use Rattle.limits.specs.declared.refusals.Refusal.{Refusal}
+use Rattle.limits.specs.declared.refusals.Refusal.TheVariants.{EndsInside}
 use Rattle.sheet.specs.Sources.{Item, num, items_from, of_bytes, of_numbers, bytes_of}
-use Rattle.sheet.specs.Items.{from-num, from_end, from_cut, from-ill, from_some}
+use Rattle.sheet.specs.Items.{from-num, from_end, from-fault, from_some}
 
 -- w times a number is w times its lowest group and 128 w times the others
 split : (w n : ℕ) → w * (n % 128) + w * 128 * (n / 128) ≡ w * n
@@ -32,7 +32,7 @@ not_short b w h = go (ltb 1 w) (eqb b 0) refl refl
 short-not : (b w : ℕ) → (ltb 1 w && eqb b 0) ≡ false → 1 < w → 0 < b
 short-not b w e h = let z = eqb-false b 0 (sym (ap (λ (t : Bool). t && eqb b 0) (lt-ltb 1 w h)) ∙ e) in omega arith
 
-groups-read : (left w v at b : ℕ) (l : List ℕ) → b < 128 → (1 < w → 0 < b) → groups (suc left) w v at (b ∷ l) ≡ Value (v + w * b) (at + 1)
+groups-read : (left w v at b : ℕ) (l : List ℕ) → b < 128 → (1 < w → 0 < b) → groups (suc left) w v at (b ∷ l) ≡ found (v + w * b) (at + 1)
 unfolding groups
 groups-read left w v at b l h k = pick_true (ltb b 128) _ _ (lt-ltb b 128 h) ∙ pick-false _ _ _ (not_short b w k)
 
@@ -43,23 +43,23 @@ groups-on left w v at b l h k = pick-false (ltb b 128) _ _ (le-ltb b 128 h) ∙ 
 
 -- the bytes of a number are read as that number
 encoded-one : (left w v at n : ℕ) (rest : List ℕ) → n < 128 → (1 < w → 0 < n)
-    → groups (suc left) w v at (encode_in (suc left) n ++ rest) ≡ Value (v + w * n) (at + length (encode_in (suc left) n))
+    → groups (suc left) w v at (encode_in (suc left) n ++ rest) ≡ found (v + w * n) (at + length (encode_in (suc left) n))
 encoded-one left w v at n rest q k = rw (encode_in-last (suc left) n (omega arith) q) (groups-read left w v at n rest q k)
 
 encoded-more : (left w v at n : ℕ) (rest : List ℕ) → 128 ≤ n
     → groups left (w * 128) (v + w * (n % 128)) (at + 1) (encode_in left (n / 128) ++ rest)
-    ≡ Value (v + w * (n % 128) + w * 128 * (n / 128)) (at + 1 + length (encode_in left (n / 128)))
-    → groups (suc left) w v at (encode_in (suc left) n ++ rest) ≡ Value (v + w * n) (at + length (encode_in (suc left) n))
+    ≡ found (v + w * (n % 128) + w * 128 * (n / 128)) (at + 1 + length (encode_in left (n / 128)))
+    → groups (suc left) w v at (encode_in (suc left) n ++ rest) ≡ found (v + w * n) (at + length (encode_in (suc left) n))
 encoded-more left w v at n rest q e =
     rw (
       encode_in-suc left n q,
       groups-on left w v at (n % 128 + 128) (encode_in left (n / 128) ++ rest) (omega arith) (omega arith),
       add-sub_cancel (n % 128) 128,
     )
-    (e ∙ ap₂ Value (omega (arith, split w n)) (omega arith))
+    (e ∙ ap₂ found (omega (arith, split w n)) (omega arith))
 
 encoded : (left w v at n : ℕ) (rest : List ℕ) → 0 < w → n < 128 ^ suc left → (1 < w → 0 < n)
-    → groups (suc left) w v at (encode_in (suc left) n ++ rest) ≡ Value (v + w * n) (at + length (encode_in (suc left) n))
+    → groups (suc left) w v at (encode_in (suc left) n ++ rest) ≡ found (v + w * n) (at + length (encode_in (suc left) n))
 encoded zero w v at n rest p h k = encoded-one zero w v at n rest (omega arith) k
 encoded (suc left) w v at n rest p h k =
     go (λ q. encoded left (w * 128) (v + w * (n % 128)) (at + 1) (n / 128) rest (omega arith) less (λ r. omega arith)) (ltb n 128) refl
@@ -68,20 +68,20 @@ encoded (suc left) w v at n rest p h k =
     less = (div-lt_iff_lt-mul {k = 128} {x = n} {y = 128 ^ suc left} (omega arith)).1 (rw (← pow-suc 128 (suc left)) h)
 
     go : (128 ≤ n → groups (suc left) (w * 128) (v + w * (n % 128)) (at + 1) (encode_in (suc left) (n / 128) ++ rest)
-        ≡ Value (v + w * (n % 128) + w * 128 * (n / 128)) (at + 1 + length (encode_in (suc left) (n / 128))))
+        ≡ found (v + w * (n % 128) + w * 128 * (n / 128)) (at + 1 + length (encode_in (suc left) (n / 128))))
         → (t : Bool) → ltb n 128 ≡ t
         → groups (suc (suc left)) w v at (encode_in (suc (suc left)) n ++ rest)
-        ≡ Value (v + w * n) (at + length (encode_in (suc (suc left)) n))
+        ≡ found (v + w * n) (at + length (encode_in (suc (suc left)) n))
     go ih true e = encoded-one (suc left) w v at n rest (ltb-true n 128 e) k
     go ih false e = let q = ltb-false n 128 e in encoded-more (suc left) w v at n rest q (ih q)
 
 number-encode : (xs rest : List ℕ) (n : ℕ) → n < 2 ^ 28
-    → number_at (xs ++ (encode n ++ rest)) (length xs) ≡ Value n (length xs + length (encode n))
+    → number_at (xs ++ (encode n ++ rest)) (length xs) ≡ found n (length xs + length (encode n))
 unfolding number_at encode
 number-encode xs rest n h =
     rw (drop-append_seam xs (encode_in 4 n ++ rest))
     (encoded 3 1 0 (length xs) n rest (omega arith) h (λ q. absurd (omega arith))
-    ∙ ap (λ (x : ℕ). Value x (length xs + length (encode_in 4 n))) (omega arith))
+    ∙ ap (λ (x : ℕ). found x (length xs + length (encode_in 4 n))) (omega arith))
 
 -- ---- a number that is read has just its bytes
 
@@ -124,7 +124,7 @@ taken_more left w v at b x next l p h k t =
       some = λ q. omega arith;
     }
 
-taken : (left w v at x next : ℕ) (l : List ℕ) → 0 < w → groups left w v at l ≡ Value x next → Taken left w v at l x next
+taken : (left w v at x next : ℕ) (l : List ℕ) → 0 < w → groups left w v at l ≡ found x next → Taken left w v at l x next
 taken zero w v at x next l p e = absurd (groups_nothing w v at x next l e)
 taken (suc left) w v at x next [] p e = absurd (groups-empty (suc left) w v at x next e)
 taken (suc left) w v at x next (b ∷ l) p e =
@@ -133,7 +133,7 @@ taken (suc left) w v at x next (b ∷ l) p e =
     (taken left (w * 128) (v + w * (b - 128)) (at + 1) x next l (omega arith) r.2))
     (groups-number left w v at b x next l e)
 
-number-bytes : (s : List ℕ) (at x next : ℕ) → number_at s at ≡ Value x next
+number-bytes : (s : List ℕ) (at x next : ℕ) → number_at s at ≡ found x next
     → (drop at s ≡ encode x ++ drop next s) × (next ≡ at + length (encode x))
 unfolding number_at encode
 number-bytes s at x next e =
@@ -172,18 +172,20 @@ from_nothing s at e = go (ltb at (length s)) refl
     go false q = ltb-false at (length s) q
 
 from_first : (s : List ℕ) (at x : ℕ) (is : List Item) → items_from s at ≡ num x ∷ is
-    → (next : ℕ) × (number_at s at ≡ Value x next) × (items_from s next ≡ is)
+    → (next : ℕ) × (number_at s at ≡ found x next) × (items_from s next ≡ is)
 from_first s at x is e = go (ltb at (length s)) refl
   where
-    by : (r : Number) → at < length s → number_at s at ≡ r → (next : ℕ) × (number_at s at ≡ Value x next) × (items_from s next ≡ is)
-    by (Value y next) h q =
-        let z : num y ∷ items_from s next ≡ num x ∷ is = sym (from-num s at y next h q) ∙ e in
-        let w : y ≡ x = cc in
-        (next, q ∙ ap (λ (k : ℕ). Value k next) w, cc)
-    by Ended h q = let z = sym (from_cut s at h q) ∙ e in let y : ◌≡◌ {A = ℕ} 0 1 = cc in absurd (omega arith)
-    by IllFormed h q = let z = sym (from-ill s at h q) ∙ e in let y : ◌≡◌ {A = ℕ} 0 1 = cc in absurd (omega arith)
+    by : (r : Result Number Refusal) → at < length s → number_at s at ≡ r
+        → (next : ℕ) × (number_at s at ≡ found x next) × (items_from s next ≡ is)
+    by (Ok n) h q =
+        let z : num n.value ∷ items_from s n.next ≡ num x ∷ is = sym (from-num s at n.value n.next h q) ∙ e in
+        let w : n.value ≡ x = cc in
+        (n.next, q ∙ ap (λ (k : ℕ). found k n.next) w, cc)
+    by (Err EndsInside) h q =
+        let z = sym (from-fault s at EndsInside h q) ∙ e in let y : ◌≡◌ {A = ℕ} 0 1 = cc in absurd (omega arith)
+    by (Err r) h q = let z = sym (from-fault s at r h q) ∙ e in let y : ◌≡◌ {A = ℕ} 0 1 = cc in absurd (omega arith)
 
-    go : (t : Bool) → ltb at (length s) ≡ t → (next : ℕ) × (number_at s at ≡ Value x next) × (items_from s next ≡ is)
+    go : (t : Bool) → ltb at (length s) ≡ t → (next : ℕ) × (number_at s at ≡ found x next) × (items_from s next ≡ is)
     go true q = by (number_at s at) (ltb-true at (length s) q) refl
     go false q = let z = sym (from_end s at (ltb-false at (length s) q)) ∙ e in let y : ◌≡◌ {A = ℕ} 0 1 = cc in absurd (omega arith)
 

@@ -1,26 +1,14 @@
 // What pairs of settings a rule allows, by its kind, and what settings a triple allows.
 ghost use Rattle.std.specs.Prelude.{◌≡◌};
-ghost use Rattle.masks.specs.Bits.{bit};
 ghost use Rattle.accepted.specs.Kinds.{distance, allows, even_draft};
 
 use limits::ENCODER_TOLERANCE;
-use masks::has_bit;
-
-// Position v is in the mask x.
-fn has(x: u32, v: u32) -> bool
-    ensures { result ≡ bit x v }
-{
-    if v < 32 {
-        has_bit(x, v as usize)
-    } else {
-        false
-    }
-}
+use masks::has_position;
 
 fn distance(p: u64, q: u64) -> u64
     ensures { result ≡ distance p q }
 {
-    if q <= p { p - q } else { q - p }
+    p.abs_diff(q)
 }
 
 // Whether a rule of a kind allows a pair: p is the setting of i, and q that of j, at position b; c is the rule's number, or, for kind 0,
@@ -32,7 +20,7 @@ pub fn allowed(kind: u32, c: u32, p: u32, q: u32, b: u32) -> bool
     let y = q as u64;
     let z = c as u64;
     match kind {
-        0 => has(c, b),
+        0 => has_position(c, b),
         1 => y + z <= x,
         2 => x + z <= y,
         3 => z <= distance(x, y),

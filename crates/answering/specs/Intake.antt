@@ -1,39 +1,52 @@
 -- A sheet taken in. Assumes nothing.
-use Rattle.std.specs.Prelude.{◌≡◌, List, ℕ, ◌≤◌, length, take}
-use Rattle.std.proofs.Common.{sym}
+use Rattle.std.specs.Prelude.{◌≡◌, refl, List, ℕ, ◌≤◌, length, take, Result, Ok, Err}
 use Rattle.limits.specs.Limits.{most_numbers}
-use Rattle.sheet.specs.Sources.{refusal, numbers, of_bytes, Gives, reading}
-use Rattle.sheet.specs.declared.answer.Answer.{Answer}
+use Rattle.limits.specs.declared.refusals.Refusal.{Refusal}
+use Rattle.limits.specs.Refusals.{number}
+use Rattle.masks.specs.Pick.{pick}
+use Rattle.sheet.specs.Sources.{refusal, numbers, of_bytes, answer_of, Accepted, Gives, reading}
 use Rattle.accepted.specs.declared.outline.Outline.{Outline}
 use Rattle.accepted.specs.Outline.{outline_of}
+use Rattle.accepted.specs.Accept.{bytes-accepted}
 use Rattle.accepted.specs.Reads.{read-refused, read-accepted, read-front, read-ends}
+use Rattle.ledger.specs.Causes.{number-some}
 use Rattle.answering.specs.declared.intake.Intake.{Intake}
 
--- The number is that of the sheet's refusal; where it is 0 the outline is the sheet's, and its numbers stand at the front of the memory.
-pub record TakenIn (sheet : List ℕ) (r : Intake) (memory : List ℕ) : Type 0 where
-  pub number : r.number ≡ refusal (of_bytes sheet)
-  pub outline : r.number ≡ 0 → r.outline ≡ outline_of (numbers (of_bytes sheet))
-  pub front : r.number ≡ 0 → take r.length memory ≡ numbers (of_bytes sheet)
-  pub ends : r.number ≡ 0 → r.length ≤ length memory
+-- The sheet is accepted, the outline is the sheet's, and its numbers stand at the front of the memory.
+pub record Taken (sheet : List ℕ) (t : Intake) (memory : List ℕ) : Type 0 where
+  pub unrefused : refusal (of_bytes sheet) ≡ 0
+  pub outline : t.outline ≡ outline_of (numbers (of_bytes sheet))
+  pub front : take t.length memory ≡ numbers (of_bytes sheet)
+  pub ends : t.length ≤ length memory
 
-module _ (sheet before : List ℕ) (room : most_numbers ≤ length before) (a : Answer) (memory : List ℕ)
-    (g : Gives (reading sheet before) a memory) where
-  pub taken_refused : (none : Outline) → (a.number ≡ 0 → ⊥)
-      → TakenIn sheet (record { number = a.number; length = a.length; outline = none }) memory
-  taken_refused none n = record {
-    number = (read-refused sheet before room a memory g n).0;
-    outline = λ z. absurd (n z);
-    front = λ z. absurd (n z);
-    ends = λ z. absurd (n z);
-  }
+pub taken-accepted : (sheet : List ℕ) (t : Intake) (memory : List ℕ) → Taken sheet t memory → Accepted (take t.length memory)
+taken-accepted sheet t memory k = rw k.front (bytes-accepted sheet k.unrefused)
 
-  pub taken-read : (o : Outline) → a.number ≡ 0 → o ≡ outline_of (take a.length memory)
-      → TakenIn sheet (record { number = 0; length = a.length; outline = o }) memory
-  taken-read o z e =
-      let f = read-front sheet before room a memory g z in
-      record {
-        number = sym (read-accepted sheet before room a memory g z);
-        outline = λ _. rw f at e;
-        front = λ _. f;
-        ends = λ _. read-ends sheet before room a memory g z;
-      }
+-- It is taken so, or refused by its refusal.
+abbrev pub TakenIn : List ℕ → Result Intake Refusal → List ℕ → Type 0
+TakenIn sheet (Ok t) memory = Taken sheet t memory
+TakenIn sheet (Err r) memory = number r ≡ refusal (of_bytes sheet)
+
+module _ (sheet before : List ℕ) (room : most_numbers ≤ length before) (memory : List ℕ) where
+  pub taken_refused : (r : Refusal) → Gives (reading sheet before) (answer_of (Err r)) memory → number r ≡ refusal (of_bytes sheet)
+  taken_refused r g = (read-refused sheet before room _ memory g (number-some r)).0
+
+  module _ (n : ℕ) (g : Gives (reading sheet before) (answer_of (Ok n)) memory) where
+    pub taken-front : take n memory ≡ numbers (of_bytes sheet)
+    unfolding pick
+    taken-front = read-front sheet before room _ memory g refl
+
+    pub taken-ends : n ≤ length memory
+    unfolding pick
+    taken-ends = read-ends sheet before room _ memory g refl
+
+    pub taken-read : (o : Outline) → o ≡ outline_of (take n memory) → Taken sheet (record { length = n; outline = o }) memory
+    taken-read o e = record {
+      unrefused = read-accepted sheet before room _ memory g refl;
+      outline = rw taken-front at e;
+      front = taken-front;
+      ends = taken-ends;
+    }
+
+    pub front-accepted : Accepted (take n memory)
+    front-accepted = rw taken-front (bytes-accepted sheet (read-accepted sheet before room _ memory g refl))

@@ -13,10 +13,11 @@ use Rattle.accepted.specs.declared.outline.Outline.{Outline}
 use Rattle.accepted.specs.Parts.{fields_of, count_of}
 use Rattle.accepted.specs.Facts.{facts}
 use Rattle.accepted.specs.Outline.{outline_of, full-has}
+use Rattle.ledger.specs.declared.Decision.{Decision}
 use Rattle.ledger.specs.declared.Event.{Event}
 use Rattle.ledger.specs.declared.Call.{Call}
 use Rattle.ledger.specs.declared.Call.TheVariants.{Open, Show, Decide, Back, CoilOn}
-use Rattle.ledger.specs.Ledger.{Decision, change_of, step}
+use Rattle.ledger.specs.Ledger.{change_of, step}
 use Rattle.ledger.specs.Ledger.{on_sheet, revertible, reversible, no_selection, malformed, off_sheet}
 use Rattle.ledger.specs.Kinds.{change_any}
 use Rattle.ledger.specs.Laws.{SameLedger}

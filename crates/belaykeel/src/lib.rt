@@ -2,13 +2,29 @@
 // the same functions to C.
 #![tactic(auto)]
 
+ghost use Rattle.std.specs.Prelude.{◌≡◌};
 ghost use Rattle.ledger.specs.declared.Call.{Call};
 ghost use Rattle.ledger.specs.Ledger.{CHOOSE, STRIKE, WITHDRAW_CHOICE, WITHDRAW_STRIKE, decides};
-ghost use Rattle.answering.specs.Answer.{spaces, Answers};
+ghost use Rattle.limits.specs.Refusals.{number_of};
+ghost use Rattle.answering.specs.Answer.{after, spaces, Answers};
 ghost use Rattle.sheet.specs.Sources.{Gives, reading, writing};
 
+use limits::refusals::Refusal;
 use session::Session;
 use sheet::answer::Answer;
+
+// The number of a call. The session that an accepted call gives is put in the place of the one before; a refused call leaves it.
+fn keep(session: &mut Session, answer: Result<Session, Refusal>) -> u32
+    ensures { (result ≡ number_of answer) × (session.new ≡ after session.old answer) }
+{
+    match answer {
+        Ok(next) => {
+            *session = next;
+            0
+        }
+        Err(refusal) => refusal.number(),
+    }
+}
 
 pub fn belaykeel_open(
     session: &mut Session,
@@ -24,11 +40,10 @@ pub fn belaykeel_open(
         (spaces offers.old rows.old memory.old)
         result session.new (spaces offers.new rows.new memory.new) }
 {
-    let out = calls::open(
+    let answer = calls::open(
         *session, sheet, engine, order, selected, offers, rows, memory,
     );
-    *session = out.session;
-    out.number
+    keep(session, answer)
 }
 
 pub fn belaykeel_show(
@@ -44,9 +59,8 @@ pub fn belaykeel_show(
         (spaces offers.old rows.old memory.old)
         result session.new (spaces offers.new rows.new memory.new) }
 {
-    let out = calls::show(*session, sheet, engine, order, offers, rows, memory);
-    *session = out.session;
-    out.number
+    let answer = calls::show(*session, sheet, engine, order, offers, rows, memory);
+    keep(session, answer)
 }
 
 pub fn belaykeel_choose(
@@ -64,11 +78,10 @@ pub fn belaykeel_choose(
         (spaces offers.old rows.old memory.old)
         result session.new (spaces offers.new rows.new memory.new) }
 {
-    let out = calls::choose(
+    let answer = calls::choose(
         *session, sheet, engine, order, field, position, offers, rows, memory,
     );
-    *session = out.session;
-    out.number
+    keep(session, answer)
 }
 
 pub fn belaykeel_strike(
@@ -86,11 +99,10 @@ pub fn belaykeel_strike(
         (spaces offers.old rows.old memory.old)
         result session.new (spaces offers.new rows.new memory.new) }
 {
-    let out = calls::strike(
+    let answer = calls::strike(
         *session, sheet, engine, order, field, position, offers, rows, memory,
     );
-    *session = out.session;
-    out.number
+    keep(session, answer)
 }
 
 pub fn belaykeel_withdraw_choice(
@@ -109,11 +121,10 @@ pub fn belaykeel_withdraw_choice(
         (spaces offers.old rows.old memory.old)
         result session.new (spaces offers.new rows.new memory.new) }
 {
-    let out = calls::withdraw_choice(
+    let answer = calls::withdraw_choice(
         *session, sheet, engine, order, field, position, offers, rows, memory,
     );
-    *session = out.session;
-    out.number
+    keep(session, answer)
 }
 
 pub fn belaykeel_withdraw_strike(
@@ -132,11 +143,10 @@ pub fn belaykeel_withdraw_strike(
         (spaces offers.old rows.old memory.old)
         result session.new (spaces offers.new rows.new memory.new) }
 {
-    let out = calls::withdraw_strike(
+    let answer = calls::withdraw_strike(
         *session, sheet, engine, order, field, position, offers, rows, memory,
     );
-    *session = out.session;
-    out.number
+    keep(session, answer)
 }
 
 pub fn belaykeel_back(
@@ -152,9 +162,8 @@ pub fn belaykeel_back(
         (spaces offers.old rows.old memory.old)
         result session.new (spaces offers.new rows.new memory.new) }
 {
-    let out = calls::back(*session, sheet, engine, order, offers, rows, memory);
-    *session = out.session;
-    out.number
+    let answer = calls::back(*session, sheet, engine, order, offers, rows, memory);
+    keep(session, answer)
 }
 
 pub fn belaykeel_coil_on(
@@ -170,21 +179,20 @@ pub fn belaykeel_coil_on(
         (spaces offers.old rows.old memory.old)
         result session.new (spaces offers.new rows.new memory.new) }
 {
-    let out = calls::coil_on(*session, sheet, engine, order, offers, rows, memory);
-    *session = out.session;
-    out.number
+    let answer = calls::coil_on(*session, sheet, engine, order, offers, rows, memory);
+    keep(session, answer)
 }
 
 // Reads a sheet's bytes to its list of numbers.
 pub fn belaykeel_read(sheet: &[u8], output: &mut [u32]) -> Answer
     ensures { Gives (reading sheet.now output.old) result output.new }
 {
-    sheet::reading::read(sheet, output)
+    Answer::from(sheet::reading::read(sheet, output))
 }
 
 // Writes a list of numbers as a sheet's bytes.
 pub fn belaykeel_write(numbers: &[u32], output: &mut [u8]) -> Answer
     ensures { Gives (writing numbers.now output.old) result output.new }
 {
-    sheet::writing::write(numbers, output)
+    Answer::from(sheet::writing::write(numbers, output))
 }

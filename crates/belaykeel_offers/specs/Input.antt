@@ -1,21 +1,22 @@
 -- The first bytes of an input decide it: a sheet has at most 8,184 numbers of at most four bytes, and the number after them is the last
 -- that is looked at. So the program reads 32,768 bytes and no more. Assumes nothing.
 use Rattle.std.specs.Prelude.{◌≡◌, refl, Bool, true, false, ◌&&◌, List, [], ◌∷◌, ℕ, zero, suc, ◌+◌, ◌-◌, ◌*◌, ◌<◌, ◌≤◌, ltb, eqb, length}
-use Rattle.std.specs.Prelude.{take, drop}
+use Rattle.std.specs.Prelude.{take, drop, Result, Ok, Err}
 use Rattle.std.proofs.Common.{sym, ap, ◌∙◌, ⊎_elim, arith, take-take, take_all, length-take-le, ltb-true, ltb-false}
 use Rattle.masks.specs.Pick.{pick}
 use Rattle.limits.specs.Limits.{most_fields, most_numbers}
-use Rattle.limits.specs.Refusals.{SURPLUS, OUT_OF_RANGE, OUT_OF_ORDER}
-use Rattle.groups.specs.Groups.{groups, number_at, last_group, groups-number, groups_nothing, groups-empty}
-use Rattle.sheet.specs.Sources.{Item, num, cut, ill, refusal_from, refusal, items_from, of_bytes}
-use Rattle.sheet.specs.Items.{from-num, from_cut, from-ill}
+use Rattle.limits.specs.Refusals.{SURPLUS}
+use Rattle.limits.specs.declared.refusals.Refusal.{Refusal}
+use Rattle.limits.specs.declared.refusals.Refusal.TheVariants.{IllFormed}
+use Rattle.groups.specs.Groups.{groups, number_at, last_group, groups-number, groups_nothing, groups-empty, found}
+use Rattle.sheet.specs.Sources.{Item, num, cut, ill, refusal_from, refusal_after, refusal, items_from, of_bytes}
+use Rattle.sheet.specs.Items.{from-num, from-fault}
 use Rattle.grammar.specs.Grammar.{advance, start, no_counts}
 use Rattle.accepted.specs.Theorems.{most-sheet-bytes}
 use Rattle.groups.specs.declared.groups.Number.{Number}
-use Rattle.groups.specs.declared.groups.Number.TheVariants.{Value, Ended, IllFormed}
 use Rattle.grammar.specs.declared.grammar.State.{State}
-use Rattle.grammar.specs.declared.grammar.State.TheVariants.{Wants, Complete, OutOfRange, OutOfOrder}
-use Rattle.belaykeel_offers.specs.Remaining.{Fits, some, fits-advance, low-none}
+use Rattle.grammar.specs.declared.grammar.State.TheVariants.{Wants, Complete}
+use Rattle.belaykeel_offers.specs.Remaining.{Fits, FitsAfter, some, fits-advance, low-none}
 
 -- ---- a number is decided by four bytes
 
@@ -30,10 +31,12 @@ unfolding groups
 groups-front zero w v at l = refl
 groups-front (suc left) w v at [] = refl
 groups-front (suc left) w v at (b ∷ l) =
-    ap (λ (r : Number). pick (ltb b 128) (last_group (ltb 1 w && eqb b 0) (v + w * b) (at + 1)) (pick (ltb b 256) r IllFormed))
+    ap
+    (λ (r : Result Number Refusal).
+    pick (ltb b 128) (last_group (ltb 1 w && eqb b 0) (v + w * b) (at + 1)) (pick (ltb b 256) r (Err IllFormed)))
     (groups-front left (w * 128) (v + w * (b - 128)) (at + 1) l)
 
-groups-within : (left w v at x next : ℕ) (l : List ℕ) → groups left w v at l ≡ Value x next → next ≤ at + left
+groups-within : (left w v at x next : ℕ) (l : List ℕ) → groups left w v at l ≡ found x next → next ≤ at + left
 groups-within zero w v at x next l e = absurd (groups_nothing w v at x next l e)
 groups-within (suc left) w v at x next [] e = absurd (groups-empty (suc left) w v at x next e)
 groups-within (suc left) w v at x next (b ∷ l) e =
@@ -46,7 +49,7 @@ unfolding number_at
 number-front s k at h =
     sym (groups-front 4 1 0 at (drop at (take k s))) ∙ ap (groups 4 1 0 at) (front at k 4 s h) ∙ groups-front 4 1 0 at (drop at s)
 
-number-within : (s : List ℕ) (at x next : ℕ) → number_at s at ≡ Value x next → next ≤ at + 4
+number-within : (s : List ℕ) (at x next : ℕ) → number_at s at ≡ found x next → next ≤ at + 4
 unfolding number_at
 number-within s at x next e = groups-within 4 1 0 at x next (drop at s) e
 
@@ -66,12 +69,15 @@ agree_at b s k at h l rest = by (number_at s at) refl
     size : length (take k s) ≡ k
     size = length-take-le k s l
 
-    by : (r : Number) → number_at s at ≡ r → Agree b (items_from (take k s) at) (items_from s at)
-    by (Value x next) e =
-        rw (from-num (take k s) at x next (omega (arith, size)) (number-front s k at h ∙ e), from-num s at x next (omega arith) e)
-        (rest x next (number-within s at x next e))
-    by Ended e = rw (from_cut (take k s) at (omega (arith, size)) (number-front s k at h ∙ e), from_cut s at (omega arith) e) alike
-    by IllFormed e = rw (from-ill (take k s) at (omega (arith, size)) (number-front s k at h ∙ e), from-ill s at (omega arith) e) alike
+    by : (r : Result Number Refusal) → number_at s at ≡ r → Agree b (items_from (take k s) at) (items_from s at)
+    by (Ok n) e =
+        rw (
+          from-num (take k s) at n.value n.next (omega (arith, size)) (number-front s k at h ∙ e),
+          from-num s at n.value n.next (omega arith) e,
+        )
+        (rest n.value n.next (number-within s at n.value n.next e))
+    by (Err r) e =
+        rw (from-fault (take k s) at r (omega (arith, size)) (number-front s k at h ∙ e), from-fault s at r (omega arith) e) alike
 
 agree : (b : ℕ) (s : List ℕ) (k at : ℕ) → at + 4 * suc b ≤ k → k ≤ length s → Agree b (items_from (take k s) at) (items_from s at)
 agree zero s k at h l = agree_at 0 s k at (omega arith) l (λ x next q. more)
@@ -83,8 +89,6 @@ agree (suc b) s k at h l = agree_at (suc b) s k at (omega arith) l (λ x next q.
 past : State → ℕ
 past (Wants n e) = 0
 past Complete = SURPLUS
-past OutOfRange = OUT_OF_RANGE
-past OutOfOrder = OUT_OF_ORDER
 
 judged-past : (st : State) (ds : List ℕ) (i : Item) (is : List Item) → Fits 0 st ds → refusal_from st ds (i ∷ is) ≡ past st
 unfolding refusal_from past
@@ -92,12 +96,12 @@ judged-past (Wants n e) ds i is h = absurd (let l = some n e in let k = h.0 in o
 judged-past Complete ds (num x) is h = refl
 judged-past Complete ds cut is h = refl
 judged-past Complete ds ill is h = refl
-judged-past OutOfRange ds (num x) is h = refl
-judged-past OutOfRange ds cut is h = refl
-judged-past OutOfRange ds ill is h = refl
-judged-past OutOfOrder ds (num x) is h = refl
-judged-past OutOfOrder ds cut is h = refl
-judged-past OutOfOrder ds ill is h = refl
+
+-- so after a number
+alike-after : (b : ℕ) (r : Result State Refusal) (ds : List ℕ) (is js : List Item) → FitsAfter b r ds
+    → ((t : State) → Fits b t ds → refusal_from t ds is ≡ refusal_from t ds js) → refusal_after r ds is ≡ refusal_after r ds js
+alike-after b (Ok t) ds is js h f = f t h
+alike-after b (Err r) ds is js h f = refl
 
 judged-alike : (b : ℕ) (st : State) (ds : List ℕ) (is js : List Item) → Fits b st ds → Agree b is js
     → refusal_from st ds is ≡ refusal_from st ds js
@@ -106,10 +110,9 @@ judged-alike b st ds is js h alike = refl
 judged-alike b st ds is js h (more {i = i} {j = j} {is = is'} {js = js'}) =
     judged-past st ds i is' h ∙ sym (judged-past st ds j js' h)
 judged-alike b (Wants n e) ds is js h (then {b = c} {i = num x} {is = is'} {js = js'} a) =
-    judged-alike c (advance n e ds x).0 (advance n e ds x).1 is' js' (fits-advance c n e ds x h) a
+    alike-after c (advance n e ds x).0 (advance n e ds x).1 is' js' (fits-advance c n e ds x h)
+    (λ t k. judged-alike c t (advance n e ds x).1 is' js' k a)
 judged-alike b Complete ds is js h (then {i = num x} a) = refl
-judged-alike b OutOfRange ds is js h (then {i = num x} a) = refl
-judged-alike b OutOfOrder ds is js h (then {i = num x} a) = refl
 judged-alike b st ds is js h (then {i = cut} a) = refl
 judged-alike b st ds is js h (then {i = ill} a) = refl
 

@@ -1,14 +1,16 @@
 -- What the program asks of the library: the sheet opened by engine 1, the fields in rising order and every field selected. Assumes nothing.
-use Rattle.std.specs.Prelude.{◌≡◌, refl, Bool, true, false, ◌||◌, List, [], ◌∷◌, ℕ, ◌≤◌, eqb, length, take}
-use Rattle.std.proofs.Common.{sym, ◌∙◌, arith, eq-eqb, ne_eqb, le-ltb}
+use Rattle.std.specs.Prelude.{◌≡◌, refl, Bool, true, false, ◌||◌, List, [], ◌∷◌, ℕ, ◌≤◌, length, take, Result, Ok, Err, IfOk}
+use Rattle.std.proofs.Common.{sym, ◌∙◌, arith, ne_eqb, le-ltb}
 use Rattle.std.proofs.Math.Path.{ap}
 use Rattle.masks.specs.Masks.{mask_of}
-use Rattle.masks.specs.Pick.{pick_true, pick-false}
+use Rattle.masks.specs.Pick.{pick, pick-false}
 use Rattle.limits.specs.Limits.{most_numbers, offers_words, rows_words, memory_words}
-use Rattle.sheet.specs.Sources.{Accepted, Gives, refusal, numbers, of_bytes, reading, answered}
+use Rattle.limits.specs.Refusals.{number_of}
+use Rattle.limits.specs.declared.refusals.Refusal.{Refusal}
+use Rattle.sheet.specs.Sources.{Accepted, Gives, refusal, numbers, of_bytes, reading, answer_of}
+use Rattle.sheet.specs.Progress.{number-some}
 use Rattle.accepted.specs.Parts.{fields_of}
-use Rattle.accepted.specs.Reads.{read-refused, read_none, read-front, read-ends, front-accepted}
-use Rattle.sheet.specs.declared.answer.Answer.{Answer as Read}
+use Rattle.accepted.specs.Reads.{read-refused, read-front, read-ends, front-accepted}
 use Rattle.ledger.specs.declared.Call.{Call}
 use Rattle.ledger.specs.declared.Call.TheVariants.{Open}
 use Rattle.ledger.specs.Ledger.{Given, number, space_short}
@@ -61,48 +63,44 @@ abbrev pub list_of : List ℕ → List ℕ
 list_of sheet = numbers (of_bytes sheet)
 
 -- The sheet read, then opened: open's number and offers, and, where it is accepted, the sheet's numbers at the front of a list.
-pub record Opened (sheet before : List ℕ) (r : Read) (front after : List ℕ) : Type 0 where
-  pub number : r.number ≡ (opening sheet (fields_of (list_of sheet)) before).number
+pub record Opened (sheet before : List ℕ) (r : Result ℕ Refusal) (front after : List ℕ) : Type 0 where
+  pub number : number_of r ≡ (opening sheet (fields_of (list_of sheet)) before).number
   pub offers : after ≡ (opening sheet (fields_of (list_of sheet)) before).offers
-  pub numbers : r.number ≡ 0 → take r.length front ≡ list_of sheet
-  pub accepted : r.number ≡ 0 → Accepted (take r.length front)
-  pub ends : r.length ≤ length front
+  pub numbers : IfOk r (λ count. take count front ≡ list_of sheet)
+  pub accepted : IfOk r (λ count. Accepted (take count front))
+  pub ends : IfOk r (λ count. count ≤ length front)
 
-module _ (sheet list : List ℕ) (room : most_numbers ≤ length list) (r : Read) (front : List ℕ)
-    (g : Gives (reading sheet list) r front) where
-  -- the sheet is refused by 1 to 5
-  module _ (n : r.number ≡ 0 → ⊥) where
-    -- open's number is the same
-    pub opened-refused : (before : List ℕ) → offers_words ≤ length before → Opened sheet before r front before
-    opened-refused before l =
-        let same = opening-refused sheet (fields_of (list_of sheet)) before l (λ z. n ((read-refused sheet list room r front g n).0 ∙ z)) in
-        record {
-          number = (read-refused sheet list room r front g n).0 ∙ sym (ap (λ (a : CallResult). a.number) same);
-          offers = sym (ap (λ (a : CallResult). a.offers) same);
-          numbers = λ z. absurd (n z);
-          accepted = λ z. absurd (n z);
-          ends = omega (arith, read_none sheet list room r front g n);
-        }
+module _ (sheet list : List ℕ) (room : most_numbers ≤ length list) (front : List ℕ) where
+  -- where the sheet is refused by 1 to 5, open's number is the same
+  pub opened-refused : (r : Refusal) → Gives (reading sheet list) (answer_of (Err r)) front →
+      (before : List ℕ) → offers_words ≤ length before
+      → Opened sheet before (Err r) front before
+  opened-refused r g before l = record {
+    number = (read-refused sheet list room (answer_of (Err r)) front g some).0 ∙ sym (ap (λ (a : CallResult). a.number) same);
+    offers = sym (ap (λ (a : CallResult). a.offers) same);
+    numbers = tt;
+    accepted = tt;
+    ends = tt;
+  }
+    where
+      some : (answer_of (Err r)).number ≡ 0 → ⊥
+      some z = omega (arith, z, number-some r)
+
+      same : opening sheet (fields_of (list_of sheet)) before
+          ≡ record { number = refusal (of_bytes sheet); session = fresh_session; offers = before }
+      same = opening-refused sheet (fields_of (list_of sheet)) before l
+          (λ z. some ((read-refused sheet list room (answer_of (Err r)) front g some).0 ∙ z))
 
   -- the sheet is read
-  module _ (z : r.number ≡ 0) where
-    -- open's answer, with the length of the list that was read
-    pub opened-read : (before : List ℕ) (k : ℕ) (after : List ℕ) (a : Read) → a ≡ answered k r.length
-        → (k ≡ (opening sheet (fields_of (list_of sheet)) before).number)
-        × (after ≡ (opening sheet (fields_of (list_of sheet)) before).offers)
-        → Opened sheet before a front after
-    opened-read before k after a e o =
-        record {
-          number = ap (λ (x : Read). x.number) e ∙ o.0;
-          offers = o.1;
-          numbers = λ y. rw (size y) (read-front sheet list room r front g z);
-          accepted = λ y. rw (size y) (front-accepted sheet list room r front g z);
-          ends = go (eqb k 0) refl;
-        }
-      where
-        size : a.number ≡ 0 → a.length ≡ r.length
-        size y = ap (λ (x : Read). x.length) e ∙ pick_true _ _ _ (eq-eqb _ 0 (sym (ap (λ (x : Read). x.number) e) ∙ y))
+  module _ (count : ℕ) (g : Gives (reading sheet list) (answer_of (Ok count)) front) where
+    pub opened-front : take count front ≡ list_of sheet
+    unfolding pick
+    opened-front = read-front sheet list room (answer_of (Ok count)) front g refl
 
-        go : (t : Bool) → eqb k 0 ≡ t → a.length ≤ length front
-        go true q = let h = read-ends sheet list room r front g z in rw (ap (λ (x : Read). x.length) e ∙ pick_true _ _ _ q) h
-        go false q = let h : a.length ≡ 0 = ap (λ (x : Read). x.length) e ∙ pick-false _ _ _ q in omega arith
+    pub opened-accepted : Accepted (take count front)
+    unfolding pick
+    opened-accepted = front-accepted sheet list room (answer_of (Ok count)) front g refl
+
+    pub opened-ends : count ≤ length front
+    unfolding pick
+    opened-ends = read-ends sheet list room (answer_of (Ok count)) front g refl

@@ -1,11 +1,12 @@
 -- What the program prints for a sheet: the text of what open answers. Assumes nothing.
-use Rattle.std.specs.Prelude.{◌≡◌, refl, Bool, true, false, List, ℕ, ◌≤◌, eqb, length, take, replicate}
-use Rattle.std.proofs.Common.{sym, ap, ◌∙◌, arith, take_at, eqb-true}
+use Rattle.std.specs.Prelude.{◌≡◌, refl, List, [], ℕ, ◌≤◌, length, take, replicate, Ok, Err}
+use Rattle.std.proofs.Common.{sym, ap, ◌∙◌, arith, take_at}
 use Rattle.std.proofs.lemmas.List.Edits.{sets}
-use Rattle.std.proofs.lemmas.Bool.{eqb-false}
 use Rattle.limits.specs.Limits.{offers_words}
+use Rattle.limits.specs.Refusals.{number}
+use Rattle.limits.specs.declared.refusals.Refusal.{Refusal}
 use Rattle.groups.specs.Storing.{sets_front}
-use Rattle.sheet.specs.declared.answer.Answer.{Answer as Read}
+use Rattle.sheet.specs.Progress.{number-some}
 use Rattle.accepted.specs.Parts.{fields_of}
 use Rattle.answering.specs.Answer.{CallResult}
 use Rattle.printing.specs.Text.{text, refused_line}
@@ -33,16 +34,19 @@ page-refused sheet n = page-text sheet ∙ text-refused (list_of sheet) (answer_
 
 -- ---- what the program writes is the page
 
-pub page-is : (sheet : List ℕ) (r : Read) (front after : List ℕ) → Opened sheet no_offers r front after
-    → text (take r.length front) r.number after ≡ page_of sheet
-page-is sheet r front after g = go (eqb r.number 0) refl
-  where
-    go : (t : Bool) → eqb r.number 0 ≡ t → text (take r.length front) r.number after ≡ page_of sheet
-    go true e = rw (g.numbers (eqb-true _ 0 e), g.number, g.offers) (sym (page-text sheet))
-    go false e =
-        let n = eqb-false r.number 0 e in
-        text-refused (take r.length front) r.number after n ∙ ap refused_line g.number
-        ∙ sym (page-refused sheet (λ z. n (g.number ∙ z)))
+module _ (sheet front after : List ℕ) where
+  -- of a sheet that is opened
+  pub page-opened : (count : ℕ) → Opened sheet no_offers (Ok count) front after → text (take count front) 0 after ≡ page_of sheet
+  page-opened count g =
+      rw (g.numbers, g.offers)
+      (ap (λ (k : ℕ). text (list_of sheet) k (answer_to sheet).offers) g.number ∙ sym (page-text sheet))
+
+  -- of one that is refused
+  pub page-by : (r : Refusal) → Opened sheet no_offers (Err r) front after → text [] (number r) after ≡ page_of sheet
+  page-by r g = text-refused [] (number r) after some ∙ ap refused_line g.number ∙ sym (page-refused sheet (λ z. some (g.number ∙ z)))
+    where
+      some : number r ≡ 0 → ⊥
+      some z = omega (arith, z, number-some r)
 
 -- bytes written over the front are in front
 pub front-is : (out all after : List ℕ) (r : ℕ) → r ≡ length all → after ≡ sets out 0 all → r ≤ length out → take r after ≡ all

@@ -1,17 +1,18 @@
 -- How many numbers of a sheet may still come: at most 8,184 from its beginning on, and each number leaves one less. Assumes nothing.
 use Rattle.std.specs.Prelude.{◌≡◌, refl, Bool, true, false, List, [], ◌∷◌, ℕ, zero, suc, ◌+◌, ◌-◌, ◌*◌, ◌<◌, ◌≤◌, ltb, leb, eqb, get_or}
-use Rattle.std.specs.Prelude.{set, replicate}
+use Rattle.std.specs.Prelude.{set, replicate, Result, Ok, Err}
 use Rattle.std.proofs.Common.{arith, ltb-true, leb-true}
 use Rattle.std.proofs.lemmas.Bool.{eqb-false}
 use Rattle.masks.specs.Tests.{and_l, and_r}
 use Rattle.masks.specs.Pick.{pick}
 use Rattle.limits.specs.Limits.{most_fields, most_settings, most_triples}
+use Rattle.limits.specs.declared.refusals.Refusal.{Refusal}
 use Rattle.grammar.specs.Grammar.{advance, up_to, ranged, ordered, after_field, after_rule, after_triple, key}
 use Rattle.grammar.specs.declared.grammar.Expected.{Expected}
 use Rattle.grammar.specs.declared.grammar.Expected.TheVariants.{Fields, Count, Setting, Reach, Rules, First, Second, Kind, Mask, Amount}
 use Rattle.grammar.specs.declared.grammar.Expected.TheVariants.{Triples, TripleFirst, TripleSecond, TripleThird, TripleAmount}
 use Rattle.grammar.specs.declared.grammar.State.{State}
-use Rattle.grammar.specs.declared.grammar.State.TheVariants.{Wants, Complete, OutOfRange, OutOfOrder}
+use Rattle.grammar.specs.declared.grammar.State.TheVariants.{Wants, Complete}
 
 -- the numbers of all triples and their count, and with those of all rules
 abbrev triples_most : ℕ
@@ -63,8 +64,11 @@ Low ds = (k : ℕ) → get_or ds k 0 ≤ most_settings
 abbrev pub Fits : ℕ → State → List ℕ → Type 0
 Fits b (Wants n e) ds = (most n e ≤ b) × Placed n e × Low ds
 Fits b Complete ds = Unit {0}
-Fits b OutOfRange ds = Unit {0}
-Fits b OutOfOrder ds = Unit {0}
+
+-- so after a number
+abbrev pub FitsAfter : ℕ → Result State Refusal → List ℕ → Type 0
+FitsAfter b (Ok st) ds = Fits b st ds
+FitsAfter b (Err r) ds = Unit {0}
 
 fits-pick : (b : ℕ) (t : Bool) (a z : State) (ds : List ℕ) → (t ≡ true → Fits b a ds) → (t ≡ false → Fits b z ds) → Fits b (pick t a z) ds
 unfolding pick
@@ -104,14 +108,18 @@ fits-after-triple b n triples floor ds h l =
     (λ t. (omega (arith, eqb-false triples 0 t), tt, l))
 
 -- the range and the order
-fits-ranged : (b : ℕ) (t : Bool) (a : State) (ds : List ℕ) → (t ≡ true → Fits b a ds) → Fits b (ranged t a) ds
-fits-ranged b t a ds p = fits-pick b t a OutOfRange ds p (λ e. tt)
+fits-ranged : (b : ℕ) (t : Bool) (a : Result State Refusal) (ds : List ℕ) → (t ≡ true → FitsAfter b a ds) → FitsAfter b (ranged t a) ds
+unfolding pick
+fits-ranged b true a ds p = p refl
+fits-ranged b false a ds p = tt
 
-fits-ordered : (b : ℕ) (t : Bool) (a : State) (ds : List ℕ) → (t ≡ true → Fits b a ds) → Fits b (ordered t a) ds
-fits-ordered b t a ds p = fits-pick b t a OutOfOrder ds p (λ e. tt)
+fits-ordered : (b : ℕ) (t : Bool) (a : Result State Refusal) (ds : List ℕ) → (t ≡ true → FitsAfter b a ds) → FitsAfter b (ordered t a) ds
+unfolding pick
+fits-ordered b true a ds p = p refl
+fits-ordered b false a ds p = tt
 
 pub fits-advance : (b n : ℕ) (e : Expected) (ds : List ℕ) (x : ℕ) → Fits (suc b) (Wants n e) ds
-    → Fits b (advance n e ds x).0 (advance n e ds x).1
+    → FitsAfter b (advance n e ds x).0 (advance n e ds x).1
 unfolding advance
 fits-advance b n Fields ds x h = fits-ranged b _ _ ds (λ t. let u = up-to most_fields x t in (omega arith, omega arith, h.2))
 fits-advance b n (Count f) ds x h =

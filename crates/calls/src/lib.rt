@@ -5,11 +5,13 @@
 ghost use Rattle.std.specs.Prelude.{◌≡◌};
 ghost use Rattle.ledger.specs.declared.Call.TheVariants.{Open, Show, Back, CoilOn};
 ghost use Rattle.ledger.specs.Ledger.{CHOOSE, STRIKE, WITHDRAW_CHOICE, WITHDRAW_STRIKE, decides};
-ghost use Rattle.answering.specs.Answer.{spaces, Answers};
+ghost use Rattle.limits.specs.Refusals.{number_of};
+ghost use Rattle.answering.specs.Answer.{after, spaces, Answers};
 
 use answering::answer::answer;
 use ledger::{CHOOSE, Call, Event, STRIKE, WITHDRAW_CHOICE, WITHDRAW_STRIKE};
-use session::{Outcome, Session};
+use limits::refusals::Refusal;
+use session::Session;
 
 // The call that changes the decisions by an event of a kind.
 pub fn decides(kind: u32, field: u32, position: u32) -> Call
@@ -33,10 +35,10 @@ pub fn open(
     offers: &mut [u32],
     rows: &mut [u32],
     memory: &mut [u32],
-) -> Outcome
+) -> Result<Session, Refusal>
     ensures { Answers (Open selected) session sheet.now engine order.now
         (spaces offers.old rows.old memory.old)
-        result.number result.session (spaces offers.new rows.new memory.new) }
+        (number_of result) (after session result) (spaces offers.new rows.new memory.new) }
 {
     let call = Call::Open(selected);
     answer(session, call, sheet, engine, order, offers, rows, memory)
@@ -51,10 +53,10 @@ pub fn show(
     offers: &mut [u32],
     rows: &mut [u32],
     memory: &mut [u32],
-) -> Outcome
+) -> Result<Session, Refusal>
     ensures { Answers Show session sheet.now engine order.now
         (spaces offers.old rows.old memory.old)
-        result.number result.session (spaces offers.new rows.new memory.new) }
+        (number_of result) (after session result) (spaces offers.new rows.new memory.new) }
 {
     let call = Call::Show;
     answer(session, call, sheet, engine, order, offers, rows, memory)
@@ -71,10 +73,10 @@ pub fn choose(
     offers: &mut [u32],
     rows: &mut [u32],
     memory: &mut [u32],
-) -> Outcome
+) -> Result<Session, Refusal>
     ensures { Answers (decides CHOOSE field position) session sheet.now engine order.now
         (spaces offers.old rows.old memory.old)
-        result.number result.session (spaces offers.new rows.new memory.new) }
+        (number_of result) (after session result) (spaces offers.new rows.new memory.new) }
 {
     let call = decides(CHOOSE, field, position);
     answer(session, call, sheet, engine, order, offers, rows, memory)
@@ -91,10 +93,10 @@ pub fn strike(
     offers: &mut [u32],
     rows: &mut [u32],
     memory: &mut [u32],
-) -> Outcome
+) -> Result<Session, Refusal>
     ensures { Answers (decides STRIKE field position) session sheet.now engine order.now
         (spaces offers.old rows.old memory.old)
-        result.number result.session (spaces offers.new rows.new memory.new) }
+        (number_of result) (after session result) (spaces offers.new rows.new memory.new) }
 {
     let call = decides(STRIKE, field, position);
     answer(session, call, sheet, engine, order, offers, rows, memory)
@@ -111,10 +113,10 @@ pub fn withdraw_choice(
     offers: &mut [u32],
     rows: &mut [u32],
     memory: &mut [u32],
-) -> Outcome
+) -> Result<Session, Refusal>
     ensures { Answers (decides WITHDRAW_CHOICE field position) session sheet.now engine order.now
         (spaces offers.old rows.old memory.old)
-        result.number result.session (spaces offers.new rows.new memory.new) }
+        (number_of result) (after session result) (spaces offers.new rows.new memory.new) }
 {
     let call = decides(WITHDRAW_CHOICE, field, position);
     answer(session, call, sheet, engine, order, offers, rows, memory)
@@ -131,10 +133,10 @@ pub fn withdraw_strike(
     offers: &mut [u32],
     rows: &mut [u32],
     memory: &mut [u32],
-) -> Outcome
+) -> Result<Session, Refusal>
     ensures { Answers (decides WITHDRAW_STRIKE field position) session sheet.now engine order.now
         (spaces offers.old rows.old memory.old)
-        result.number result.session (spaces offers.new rows.new memory.new) }
+        (number_of result) (after session result) (spaces offers.new rows.new memory.new) }
 {
     let call = decides(WITHDRAW_STRIKE, field, position);
     answer(session, call, sheet, engine, order, offers, rows, memory)
@@ -149,10 +151,10 @@ pub fn back(
     offers: &mut [u32],
     rows: &mut [u32],
     memory: &mut [u32],
-) -> Outcome
+) -> Result<Session, Refusal>
     ensures { Answers Back session sheet.now engine order.now
         (spaces offers.old rows.old memory.old)
-        result.number result.session (spaces offers.new rows.new memory.new) }
+        (number_of result) (after session result) (spaces offers.new rows.new memory.new) }
 {
     let call = Call::Back;
     answer(session, call, sheet, engine, order, offers, rows, memory)
@@ -167,10 +169,10 @@ pub fn coil_on(
     offers: &mut [u32],
     rows: &mut [u32],
     memory: &mut [u32],
-) -> Outcome
+) -> Result<Session, Refusal>
     ensures { Answers CoilOn session sheet.now engine order.now
         (spaces offers.old rows.old memory.old)
-        result.number result.session (spaces offers.new rows.new memory.new) }
+        (number_of result) (after session result) (spaces offers.new rows.new memory.new) }
 {
     let call = Call::CoilOn;
     answer(session, call, sheet, engine, order, offers, rows, memory)

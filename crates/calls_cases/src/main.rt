@@ -18,7 +18,7 @@ use std::io;
 
 // Sheet D by an engine: a strike withdrawn before the choice made after it, and single decisions.
 fn sheet_d(rt: &impl Print, engine: u32) -> io::Result<()> {
-    line::named(rt, b"-- sheet D, engine", engine)?;
+    println!(rt; "-- sheet D, engine {engine}")?;
     play(rt, fresh(), engine, b"o.3 s02 c11 c10 S02 h.. C10 b.. o.3 ")?;
     play(rt, started(), engine, b"c00 s00 ")
 }
@@ -26,24 +26,21 @@ fn sheet_d(rt: &impl Print, engine: u32) -> io::Result<()> {
 // A strike and its withdrawal, 31 times.
 fn sixty_two() -> Session {
     let mut s = started();
-    let mut k: u32 = 0;
-    while k < 31 {
-        let struck = quiet(decides(STRIKE, 0, 2), s);
-        let withdrawn = quiet(decides(WITHDRAW_STRIKE, 0, 2), struck);
-        s = withdrawn;
-        k += 1;
+    for _ in 0..31 {
+        s = quiet(decides(STRIKE, 0, 2), s);
+        s = quiet(decides(WITHDRAW_STRIKE, 0, 2), s);
     }
     s
 }
 
 fn events(rt: &impl Print) -> io::Result<()> {
-    line::heading(rt, b"-- 10 and 11: in force or not")?;
+    println!(rt; "-- 10 and 11: in force or not")?;
     play(rt, started(), 1, b"S02 s02 s02 C02 S01 c02 c01 c01 c02 ")?;
-    line::heading(rt, b"-- 13: back")?;
+    println!(rt; "-- 13: back")?;
     play(rt, started(), 1, b"b.. s02 S02 b.. b.. b.. ")?;
-    line::heading(rt, b"-- coil-on, then back")?;
+    println!(rt; "-- coil-on, then back")?;
     play(rt, started(), 1, b"s02 n.. b.. s02 h.. S02 ")?;
-    line::heading(rt, b"-- 12: 62 events, and more")?;
+    println!(rt; "-- 12: 62 events, and more")?;
     play(
         rt,
         sixty_two(),
@@ -53,9 +50,9 @@ fn events(rt: &impl Print) -> io::Result<()> {
 }
 
 fn main(rt: HostRuntime) -> io::Result<()> {
-    sheet_d(&rt, 1)?;
-    sheet_d(&rt, 2)?;
-    sheet_d(&rt, 3)?;
+    for engine in [1, 2, 3] {
+        sheet_d(&rt, engine)?;
+    }
     events(&rt)?;
     refused::cases(&rt)?;
     selected::cases(&rt)?;

@@ -24,13 +24,16 @@ use Rattle.consistency.specs.Closing.{closing}
 use Rattle.consistency.proofs.Closing.{closing-is}
 use Rattle.consistency.specs.Revising.{rules_only, closed_under-other}
 use Rattle.consistency.specs.Passing.{NoneEmpty, none_empty, none_empty-at}
-use Rattle.network.specs.Tables.{rule_problem, Wired}
-use Rattle.network.specs.TripleTable.{problem_of, no_triples, TripleTable, triples_in}
+use Rattle.network.specs.declared.tables.Tables.{Tables}
+use Rattle.network.specs.Tables.{rule_problem}
+use Rattle.network.specs.TripleTable.{problem_of, no_triples, triples_in}
+use Rattle.network.specs.Network.{problem, rules, WiredTables, Tripled}
 use Rattle.pruning.specs.Shrunk.{or-within, one-within, small_⊆, Shrunk, shrunk-then, shrunk-set}
 use Rattle.pruning.specs.Supports.{Counts, Supports, supports-less, closed_positive}
 use Rattle.pruning.specs.Prune.{PruneAsks}
 use Rattle.pruning.specs.Close.{Closes}
 use Rattle.revising.specs.Narrow.{ClosedElse}
+use Rattle.closing.specs.declared.ac4.Ac4.{Ac4}
 use Rattle.closing.specs.Frame.{Live, Tested, Removed}
 
 -- a set: a mask for each field, with a bit for each setting
@@ -38,29 +41,35 @@ pub record Masks (S : List ℕ) : Type 0 where
   pub long : length S ≡ most_fields
   pub small : Small S
 
--- the spaces of closing as an engine makes them: no support set, no count, and a place for each setting (lines 1 to 4 of SAC_2 in Figure 2)
-pub record Blank (support counter copy list : List ℕ) : Type 0 where
-  pub long-support : length support ≡ support_words
-  pub long_counter : length counter ≡ counter_words
-  pub long-copy : length copy ≡ counter_words
-  pub places : length list ≡ list_places
-  pub no_support : (q : ℕ) → get_or support q 0 ≡ 0
-  pub no_count : (q : ℕ) → get_or counter q 0 ≡ 0
+-- what closing keeps, as an engine makes it: no support set, no count, and a place for each setting (lines 1 to 4 of SAC_2 in Figure 2)
+pub record Blank (a : Ac4) : Type 0 where
+  pub long-support : length a.support ≡ support_words
+  pub long_counter : length a.counter.counts ≡ counter_words
+  pub places : length a.list.places ≡ list_places
+  pub no_support : (q : ℕ) → get_or a.support q 0 ≡ 0
+  pub no_count : (q : ℕ) → get_or a.counter.counts q 0 ≡ 0
 
 -- the start of an engine: no field is empty
-pub record CloseAsks (n : ℕ) (joined forward turned triples : List ℕ) (S support counter copy list : List ℕ) : Type 0 where
-  pub wired : Wired n joined forward turned
-  pub table : TripleTable n triples
+pub record CloseAsks (t : Tables) (S : List ℕ) (a : Ac4) : Type 0 where
+  pub wired : WiredTables t
+  pub table : Tripled t
   pub masks : Masks S
-  pub full : NoneEmpty (problem_of n joined forward turned triples) (all_fields (problem_of n joined forward turned triples)) S
-  pub blank : Blank support counter copy list
+  pub full : NoneEmpty (problem t) (all_fields (problem t)) S
+  pub blank : Blank a
 
 -- Between two tests: the support sets serve the set, the counts are exact, and so is their copy.
-pub record Counted (P : Problem) (support counter copy list S : List ℕ) : Type 0 where
-  pub supported : Supports P support S
-  pub counts : Counts P.fields support counter S
-  pub copied : copy ≡ counter
-  pub places : length list ≡ list_places
+pub record Counted (P : Problem) (a : Ac4) (S : List ℕ) : Type 0 where
+  pub supported : Supports P a.support S
+  pub counts : Counts P.fields a.support a.counter.counts S
+  pub copied : a.copy.counts ≡ a.counter.counts
+  pub spent : a.counter.spent ≡ 0
+  pub spent-copy : a.copy.spent ≡ 0
+  pub places : length a.list.places ≡ list_places
+
+-- a test changes the removal list alone
+pub record Kept (before after : Ac4) : Type 0 where
+  pub counter : after.counter ≡ before.counter
+  pub support : after.support ≡ before.support
 
 -- support is under the rules over two fields alone
 pub supports-rules : (P : Problem) (support S : List ℕ) → Supports P support S → Supports (rules_only P) support S
@@ -74,18 +83,21 @@ abbrev pub Lists : List ℕ → List ℕ → List ℕ → List ℕ → Type 0
 Lists D L R K = (u : ℕ) × Moved D L 0 R K u
 
 -- a set that an engine works on
-pub record LiveAsks (n : ℕ) (joined forward turned triples : List ℕ) (S : List ℕ) : Type 0 where
-  pub wired : Wired n joined forward turned
-  pub table : TripleTable n triples
+pub record LiveAsks (t : Tables) (S : List ℕ) : Type 0 where
+  pub wired : WiredTables t
+  pub table : Tripled t
   pub masks : Masks S
-  pub live : Live (problem_of n joined forward turned triples) S
+  pub live : Live (problem t) S
 
-module _ (n : ℕ) (joined forward turned triples : List ℕ) (S : List ℕ) (a : LiveAsks n joined forward turned triples S) where
+module _ (t : Tables) (S : List ℕ) (a : LiveAsks t S) where
   abbrev P : Problem
-  P = problem_of n joined forward turned triples
+  P = problem t
+
+  abbrev n : ℕ
+  n = t.network.now.fields
 
   -- after a shrinking that keeps the set alive
-  pub asks-shrunk : {R : List ℕ} {changed : ℕ} → Shrunk S R changed → Live P R → LiveAsks n joined forward turned triples R
+  pub asks-shrunk : {R : List ℕ} {changed : ℕ} → Shrunk S R changed → Live P R → LiveAsks t R
   asks-shrunk {R} s l = record {
     wired = a.wired;
     table = a.table;
@@ -133,17 +145,17 @@ module _ (n : ℕ) (joined forward turned triples : List ℕ) (S : List ℕ) (a 
         part false true h = h refl
         part false false h = refl
 
-    module _ (support counter copy list : List ℕ) (ct : Counted P support counter copy list S) (W : ℕ) (fields : Within W (all_fields P))
+    module _ (c : Ac4) (ct : Counted P c S) (W : ℕ) (fields : Within W (all_fields P))
         (in_W : bit W f ≡ true) (full : NoneEmpty P W R) where
       -- what pruneAC asks then, for the counts or their copy
-      pub prune_asks : (C : List ℕ) → C ≡ counter → (K : List ℕ) (t : ℕ) → Moved S list 0 R K t
-          → PruneAsks (rule_problem n joined forward turned) W support 0 R K t C
+      pub prune_asks : (C : List ℕ) → C ≡ c.counter.counts → (K : List ℕ) (u : ℕ) → Moved S c.list.places 0 R K u
+          → PruneAsks (rules t) W c.support 0 R K u C
       unfolding problem_of rule_problem
-      prune_asks C e K t m = record {
-        alone = no_triples n joined forward turned;
+      prune_asks C e K u m = record {
+        alone = no_triples n t.network.now.joined t.forward.now t.turned.now;
         listed = record {
           whole = S;
-          before = list;
+          before = c.list.places;
           long = a.masks.long;
           small = a.masks.small;
           places = ct.places;
@@ -152,9 +164,9 @@ module _ (n : ℕ) (joined forward turned triples : List ℕ) (S : List ℕ) (a 
           counts = rw e ct.counts;
           fields = λ j b x y. ⊎_elim (λ q. rw q in_W) (λ q. absurd (never (same j b q ∙ x) y)) (eq_cases j f);
         };
-        supported = supports-less (rule_problem n joined forward turned) support S R inside (supports-rules P support S ct.supported);
+        supported = supports-less (rules t) c.support S R inside (supports-rules P c.support S ct.supported);
         positive = λ i j v x y r h. rw e
-            (closed_positive P support counter S ct.supported (all_fields P) ct.counts a.masks.small a.live.shut
+            (closed_positive P c.support c.counter.counts S ct.supported (all_fields P) ct.counts a.masks.small a.live.shut
             i j v (x.0, fields i x.1) (y.0, fields j y.1) r (inside i v h));
         full = full;
         on = λ g b. all_fields_bound P g (fields g b);
@@ -163,9 +175,10 @@ module _ (n : ℕ) (joined forward turned triples : List ℕ) (S : List ℕ) (a 
 
     -- the set is still closed under each triple rule that f is not in
     pub closed_else : (W : ℕ) → ClosedElse P W (2 ^ f) R
-    closed_else W t l out = closed_under-other P (triples_in n joined forward turned triples a.table) S a.live.shut
-        W R f inside same t l
-        (not_so (has_field (triple_at P t) f) (λ h. never (bit-one f f ∙ eq-eqb f f refl) (out f h)))
+    closed_else W k l out =
+        closed_under-other P (triples_in n t.network.now.joined t.forward.now t.turned.now t.triples.now a.table) S a.live.shut
+        W R f inside same k l
+        (not_so (has_field (triple_at P k) f) (λ h. never (bit-one f f ∙ eq-eqb f f refl) (out f h)))
 
   -- the set cut to a setting, and the set without it, differ from it in one field
   pub cut-same : (f v g u : ℕ) → (g ≡ f → ⊥) → has (cut S f v) g u ≡ has S g u

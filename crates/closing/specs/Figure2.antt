@@ -10,6 +10,7 @@ use Rattle.consistency.specs.Problem.{Problem}
 use Rattle.pruning.specs.Supports.{supports-less, partners, counts-exact}
 use Rattle.pruning.specs.Prune.{PruneAsks, Pruned}
 use Rattle.initializing.specs.Initialize.{Initialized}
+use Rattle.closing.specs.declared.ac4.Ac4.{Ac4}
 use Rattle.closing.specs.Asks.{Counted, Lists}
 
 -- position b of field j is at one place of the list from t to u
@@ -69,8 +70,8 @@ module _ (P : Problem) where
         counts-exact P S C D (supports-less P S D1 D p.moved.inside a.supported) (p.counts e)
 
   -- between two tests, as `close`, `test` and `remove` leave them, the counts and their copy are exact
-  pub counted-exact : (S C copy list D : List ℕ) → Counted P S C copy list D → (i j a : ℕ) → i < P.fields → j < P.fields
-      → P.joined i j ≡ true → has D i a ≡ true → (count_at C j i a ≡ partners P D i a j) × (count_at copy j i a ≡ partners P D i a j)
-  counted-exact S C copy list D c i j a l k r e =
-      let x = counts-exact P S C D c.supported c.counts i j a l k r e in
-      (x, rw c.copied x)
+  pub counted-exact : (c : Ac4) (D : List ℕ) → Counted P c D → (i j a : ℕ) → i < P.fields → j < P.fields → P.joined i j ≡ true
+      → has D i a ≡ true → (count_at c.counter.counts j i a ≡ partners P D i a j) × (count_at c.copy.counts j i a ≡ partners P D i a j)
+  counted-exact c D x i j a l k r e =
+      let y = counts-exact P c.support c.counter.counts D x.supported x.counts i j a l k r e in
+      (y, rw x.copied y)

@@ -1,7 +1,7 @@
 -- What the engines share: the sets that they work on, the test of a setting, the removal of one that failed. Assumes nothing.
 use Rattle.std.specs.Prelude.{◌≡◌, Bool, List, ℕ, length, get_or}
 use Rattle.std.proofs.Math.Path.{refl, ap}
-use Rattle.std.proofs.Common.{sym, ap₂, ◌∙◌, ⊎_elim}
+use Rattle.std.proofs.Common.{sym, ap₂, ◌∙◌, ⊎_elim, true≢false}
 use Rattle.std.proofs.Math.Bool.{true, false, not}
 use Rattle.std.proofs.lemmas.Bool.{not-true, not-false}
 use Rattle.masks.specs.Tests.{never, not_so, bool_cases, eq_cases}
@@ -80,6 +80,16 @@ module _ (P : Problem) where
     pub made : wiped ≡ false → R ≡ closing P (all_fields P) (lose S f v)
     pub shrunk : wiped ≡ false → Shrunk S R touched
     pub marks : wiped ≡ false → Within touched (all_fields P)
+
+  -- where a field is empty, the fields that lost settings are of no account
+  pub removed-wiped : {S : List ℕ} {f v some any : ℕ} {R : List ℕ} → Removed S f v true some R → Removed S f v true any R
+  removed-wiped r = record {
+    sized = r.sized;
+    wipes = r.wipes;
+    made = λ e. absurd (true≢false e);
+    shrunk = λ e. absurd (true≢false e);
+    marks = λ e. absurd (true≢false e);
+  }
 
   -- ---- the offers stay the same
 

@@ -1,10 +1,9 @@
 -- The copy of the counts, made again: words copied towards one field after the other. Assumes nothing.
-use Rattle.std.specs.Prelude.{◌≡◌, refl, ◌⊎◌, true, List, ℕ, ◌+◌, ◌-◌, ◌*◌, ◌/◌, ◌≤◌, ◌<◌, ltb, length, get_or, set}
+use Rattle.std.specs.Prelude.{◌≡◌, refl, ◌⊎◌, List, ℕ, ◌+◌, ◌-◌, ◌*◌, ◌/◌, ◌≤◌, ◌<◌, ltb, length, get_or, set}
 use Rattle.std.proofs.Common.{sym, ap, ◌∙◌, inl, inr, ⊎_elim, eq-or-lt_of_le, arith, length-set, ext_get_or, get_or-set_same}
 use Rattle.std.proofs.Common.{get_or-set_other, ltb-true, ltb-false}
-use Rattle.std.proofs.Math.ListN.{get_or-eq_default}
 use Rattle.limits.specs.Limits.{most_fields, counts_words, counter_words}
-use Rattle.masks.specs.Tests.{never, bool_cases, eq_cases}
+use Rattle.masks.specs.Tests.{bool_cases, eq_cases}
 use Rattle.masks.specs.Bits.{bit}
 use Rattle.masks.proofs.Bits.{bit_of-zero}
 use Rattle.masks.specs.Words.{clear}
@@ -55,13 +54,3 @@ recovered_end left C R z lc lr p =
     ext_get_or 0 R C (lr ∙ sym lc)
     (λ q l. p.same (q / counts_words) (ap (λ (x : ℕ). bit x (q / counts_words)) z ∙ bit_of-zero (q / counts_words))
     q (omega arith) (omega arith))
-
--- every field may differ
-pub recover_all : {C R : List ℕ} → length C ≡ counter_words → length R ≡ counter_words → (all : ℕ)
-    → ((j : ℕ) → j < most_fields → bit all j ≡ true) → OnlySpent all C R
-recover_all {C} {R} lc lr all h = record {
-  same = λ j e q l k. ⊎_elim
-      (λ z. absurd (never (h j (ltb-true j most_fields z)) e))
-      (λ z. let y = ltb-false j most_fields z in get_or-eq_default R 0 (omega arith) ∙ sym (get_or-eq_default C 0 (omega arith)))
-      (bool_cases (ltb j most_fields));
-}

@@ -1,17 +1,19 @@
 // The test of a setting, and the removal of one that failed: settings leave a set and enter the removal list, and it is emptied.
 ghost use Rattle.std.specs.Prelude.{◌≡◌, true, false};
+ghost use Rattle.limits.specs.Refusals.{is_wiped, fields_in};
 ghost use Rattle.masks.specs.Bits.{bit, Within};
 ghost use Rattle.masks.specs.Sets.{has};
 ghost use Rattle.consistency.specs.Problem.{all_fields};
-ghost use Rattle.network.specs.TripleTable.{problem_of};
+ghost use Rattle.network.specs.Network.{problem};
 ghost use Rattle.closing.specs.Frame.{Tested, Removed};
-ghost use Rattle.closing.specs.Asks.{LiveAsks, Counted, Lists};
+ghost use Rattle.closing.specs.Asks.{LiveAsks, Counted, Kept, Lists};
 
-use super::close::Narrowed;
+use super::ac4::Ac4;
 use super::recover::recover;
-use limits::{COUNTER_WORDS, FIELDS, LIST_PLACES, SUPPORT_WORDS};
-use masks::{Domains, one_bit};
-use network::hoods::all_fields;
+use limits::FIELDS;
+use limits::refusals::WipedOut;
+use masks::{Domains, first_positions, one_bit};
+use network::tables::Tables;
 use removal_list::move_out;
 use revising::narrow::narrow;
 
@@ -19,107 +21,77 @@ use revising::narrow::narrow;
 // t is the set; where the setting passes, t becomes what the test left.
 pub fn test<'a>(
     t: &mut [u32; FIELDS],
-    n: usize,
     f: usize,
     v: usize,
     within: u32,
-    counter: &[u32; COUNTER_WORDS],
-    copy: &mut [u32; COUNTER_WORDS],
-    support: &[u32; SUPPORT_WORDS],
-    list: &mut [u32; LIST_PLACES],
-    joined: &[u32; FIELDS],
-    forward: &'a [u32],
-    turned: &'a [u32],
-    triples: &[u32],
+    ac4: &mut Ac4,
+    tables: &Tables<'a>,
 ) -> bool
-    requires live_asks { LiveAsks n joined.now forward.now turned.now triples.now t.old × (has t.old f v ≡ true)
-        × Within within (all_fields (problem_of n joined.now forward.now turned.now triples.now)) × (bit within f ≡ true) }
-    requires counted { Counted (problem_of n joined.now forward.now turned.now triples.now) support.now counter.now copy.old
-        list.old t.old }
-    ensures { Tested (problem_of n joined.now forward.now turned.now triples.now) within
-        t.old f v result t.new
-        × Counted (problem_of n joined.now forward.now turned.now triples.now)
-        support.now
-        counter.now copy.new list.new t.old
-        × Lists t.old list.old t.new list.new }
+    requires live_asks { LiveAsks tables.now t.old × (has t.old f v ≡ true)
+        × Within within (all_fields (problem tables.now)) × (bit within f ≡ true) }
+    requires counted { Counted (problem tables.now) ac4.old t.old }
+    ensures tested { Tested (problem tables.now) within t.old f v result t.new }
+    ensures counted { Counted (problem tables.now) ac4.new t.old }
+    ensures kept { Kept ac4.old ac4.new }
+    ensures lists { Lists t.old ac4.old.list.places t.new ac4.new.list.places }
 {
     let masks = *t;
     let set = Domains { masks };
     let cut = set.cut(f, v);
     let off = t[f] ^ cut.masks[f];
-    let tail = move_out(t, f, off, list, 0);
-    let p = narrow(
+    ac4.list.tail = 0;
+    move_out(t, f, off, &mut ac4.list);
+    let passes = narrow(
         t,
-        n,
         within,
         one_bit(f),
-        copy,
-        support,
-        list,
-        tail,
-        joined,
-        forward,
-        turned,
-        triples,
-    );
-    recover(copy, counter, p.spent);
-    !p.wiped
+        &mut ac4.copy,
+        &ac4.support,
+        &mut ac4.list,
+        tables,
+    )
+    .is_ok();
+    recover(&mut ac4.copy.counts, &ac4.counter.counts, ac4.copy.spent);
+    ac4.copy.spent = 0;
+    passes
 }
 
-// Takes position v of field f from the set and closes it over every field again, with the counts.
+// Takes position v of field f from the set and closes it over every field again, with the counts. The fields that lost settings.
 pub fn remove<'a>(
     m: &mut [u32; FIELDS],
-    n: usize,
     f: usize,
     v: usize,
-    counter: &mut [u32; COUNTER_WORDS],
-    copy: &mut [u32; COUNTER_WORDS],
-    support: &[u32; SUPPORT_WORDS],
-    list: &mut [u32; LIST_PLACES],
-    joined: &[u32; FIELDS],
-    forward: &'a [u32],
-    turned: &'a [u32],
-    triples: &[u32],
-) -> Narrowed
-    requires live_asks { LiveAsks n joined.now forward.now turned.now triples.now m.old × (has m.old f v ≡ true) }
-    requires counted { Counted (problem_of n joined.now forward.now turned.now triples.now) support.now counter.old copy.old
-        list.old m.old }
-    ensures { Removed (problem_of n joined.now forward.now turned.now triples.now)
-        m.old f v result.wiped result.changed m.new
-        × (result.wiped ≡ false → Counted (problem_of n joined.now forward.now turned.now
-        triples.now)
-        support.now counter.new copy.new list.new m.new)
-        × Lists m.old list.old m.new list.new }
+    ac4: &mut Ac4,
+    tables: &Tables<'a>,
+) -> Result<u32, WipedOut>
+    requires live_asks { LiveAsks tables.now m.old × (has m.old f v ≡ true) }
+    requires counted { Counted (problem tables.now) ac4.old m.old }
+    ensures removed { Removed (problem tables.now) m.old f v (is_wiped result) (fields_in result) m.new }
+    ensures counted { is_wiped result ≡ false → Counted (problem tables.now) ac4.new m.new }
+    ensures support { ac4.new.support ≡ ac4.old.support }
+    ensures lists { Lists m.old ac4.old.list.places m.new ac4.new.list.places }
 {
     let masks = *m;
     let set = Domains { masks };
     let left = set.lose(f, v);
     if left.is_empty(f) {
-        return Narrowed {
-            wiped: true,
-            changed: 0,
-        };
+        return Err(WipedOut);
     }
     let off = m[f] ^ left.masks[f];
-    let tail = move_out(m, f, off, list, 0);
+    ac4.list.tail = 0;
+    move_out(m, f, off, &mut ac4.list);
     let own = one_bit(f);
-    let r = narrow(
+    let all = first_positions(tables.network.fields);
+    let more = narrow(
         m,
-        n,
-        all_fields(n),
+        all,
         own,
-        counter,
-        support,
-        list,
-        tail,
-        joined,
-        forward,
-        turned,
-        triples,
-    );
-    recover(copy, counter, r.spent);
-    Narrowed {
-        wiped: r.wiped,
-        changed: own | r.changed,
-    }
+        &mut ac4.counter,
+        &ac4.support,
+        &mut ac4.list,
+        tables,
+    )?;
+    recover(&mut ac4.copy.counts, &ac4.counter.counts, ac4.counter.spent);
+    ac4.counter.spent = 0;
+    Ok(own | more)
 }

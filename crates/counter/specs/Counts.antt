@@ -1,15 +1,14 @@
 -- The counts towards a field, for the settings of every other. Assumes nothing.
-use Rattle.std.specs.Prelude.{◌≡◌, refl, ◌⊎◌, Bool, ◌&&◌, List, ℕ, ◌+◌, ◌*◌, ◌≤◌, ◌<◌, ltb, length, get_or, set, replicate}
+use Rattle.std.specs.Prelude.{◌≡◌, ◌⊎◌, Bool, ◌&&◌, List, ℕ, ◌+◌, ◌*◌, ◌≤◌, ◌<◌, ltb, length, get_or, set}
 use Rattle.std.proofs.Common.{◌∙◌, inl, inr, ⊎_elim, le_refl, eq-or-lt_of_le, arith, length-set, get_or-set_same, get_or-set_other}
 use Rattle.std.proofs.Common.{ltb-true, ltb-false}
 use Rattle.std.specs.Int.Bits.{bit_and, bit_xor}
 use Rattle.std.proofs.Math.Dec.{eqb}
-use Rattle.std.proofs.lemmas.List.{length-replicate}
 use Rattle.limits.specs.Limits.{most_fields, counts_words}
 use Rattle.masks.specs.Tests.{bool_cases}
 use Rattle.masks.specs.Bits.{bit}
 use Rattle.masks.specs.Masks.{digit}
-use Rattle.masks.specs.Sets.{has, get_d_zeros}
+use Rattle.masks.specs.Sets.{has}
 use Rattle.counter.specs.Digits.{digit_count, counted_word, Away, LoweredWord, RaisedWord, same-words, zero-words, uncounted-bit}
 
 -- Counter[(i, j), a] of Figure 2: how many settings of field j support position a of field i
@@ -112,10 +111,6 @@ mask-more none k r p h e f i a l =
     ⊎_elim (λ (q : i ≡ k). rw (q, get_or-set_same none k r 0 h) (f a))
     (λ q. rw (get_or-set_other none k i r 0 (λ z. omega arith)) (e i a q)) (field-cases i k l)
 
--- an array of zeros
-pub first-zeros : First 0 (replicate most_fields 0)
-first-zeros = record { long = length-replicate {A = ℕ} most_fields 0; past = λ i _. get_d_zeros most_fields i }
-
 first_more : (k r : ℕ) (none : List ℕ) → First k none → First (k + 1) (set none k r)
 first_more k r none f = record {
   long = length-set none k r ∙ f.long;
@@ -123,15 +118,6 @@ first_more k r none f = record {
 }
 
 -- ---- all counts towards j lowered, those of one field after the other
-
-pub lowered-start : (C : List ℕ) (j : ℕ) (s none : List ℕ) → First 0 none → Lowered C j s 0 none C
-lowered-start C j s none f = record {
-  sized = refl;
-  first = f;
-  less = λ i a h _. absurd (omega arith);
-  zero = λ i a h. absurd (omega arith);
-  there = λ _ _. refl;
-}
 
 module _ (C : List ℕ) (j : ℕ) (s : List ℕ) (k r : ℕ) (none R Q : List ℕ) (h : k < most_fields) (p : Lowered C j s k none R)
     (w : LoweredWord R (j * counts_words + k) (get_or s k 0) r Q) where
@@ -163,9 +149,6 @@ module _ (C : List ℕ) (j : ℕ) (s : List ℕ) (k r : ℕ) (none R Q : List �
 
 -- ---- and raised
 
-pub raised_start : (C : List ℕ) (j : ℕ) (s : List ℕ) → Raised C j s 0 C
-raised_start C j s = record { sized = refl; more = λ i a h _. absurd (omega arith); there = λ _ _. refl }
-
 module _ (C : List ℕ) (j : ℕ) (s : List ℕ) (k : ℕ) (R Q : List ℕ) (h : k < most_fields) (p : Raised C j s k R)
     (w : RaisedWord R (j * counts_words + k) (get_or s k 0) Q) where
   raised_beside : (i a : ℕ) → i < most_fields → (i ≡ k → ⊥) → count_at Q j i a ≡ count_at R j i a
@@ -188,9 +171,6 @@ module _ (C : List ℕ) (j : ℕ) (s : List ℕ) (k : ℕ) (R Q : List ℕ) (h :
   }
 
 -- ---- the settings whose count is 0
-
-pub uncounted-start : (C : List ℕ) (j : ℕ) (d none : List ℕ) → First 0 none → Uncounted C j d 0 none
-uncounted-start C j d none f = record { first = f; zero = λ i a h. absurd (omega arith) }
 
 pub uncounted-next : (C : List ℕ) (j : ℕ) (d : List ℕ) (k r : ℕ) (none : List ℕ) → k < most_fields
     → r ≡ counted_word C (j * counts_words + k)

@@ -11,10 +11,10 @@ use Rattle.consistency.proofs.Neighbourhood.{neighbourhood_bound, neighbourhood-
 use Rattle.consistency.specs.Offers.{wiped_out}
 use Rattle.consistency.proofs.Order.{offers-same-hoods}
 use Rattle.accepted.specs.Parts.{fields_of, reach_of}
-use Rattle.network.specs.declared.build.Network.{Network}
+use Rattle.network.specs.declared.tables.Tables.{Tables}
 use Rattle.network.specs.TripleTable.{problem_of}
 use Rattle.network.specs.SheetProblem.{sheet_problem, sheet-symmetric}
-use Rattle.network.specs.Network.{problem_in, NetworkOf, TriplesOf, network-holds}
+use Rattle.network.specs.Network.{problem, hoods, NetworkOf, TriplesOf, network-holds}
 use Rattle.closing.specs.Asks.{Masks}
 use Rattle.engines.specs.Engine.{IsOrder, Hoods, hood_in, Offered, Engine}
 use Rattle.engines.specs.EngineAsks.{RunAsks}
@@ -38,40 +38,38 @@ hoods-at xs hood e = record {
 
 -- ---- the network of an accepted sheet: it may be built once, and engines run on it many times
 
-module _ (xs : List ℕ) (net : Network) (forward turned triples : List ℕ) (t : NetworkOf xs net forward turned)
-    (d : TriplesOf xs triples) where
-  holds : problem_in net forward turned triples ≡ sheet_problem xs
-  holds = network-holds xs net forward turned triples t d
+module _ (xs : List ℕ) (t : Tables) (w : NetworkOf xs t.network.now t.forward.now t.turned.now) (d : TriplesOf xs t.triples.now) where
+  holds : problem t ≡ sheet_problem xs
+  holds = network-holds xs t.network.now t.forward.now t.turned.now t.triples.now w d
 
-  near : (f : ℕ) → f < (sheet_problem xs).fields → get_or net.hood f 0 ≡ neighbourhood (sheet_problem xs) (reach_of xs) f
+  near : (f : ℕ) → f < (sheet_problem xs).fields → get_or (hoods t) f 0 ≡ neighbourhood (sheet_problem xs) (reach_of xs) f
   unfolding sheet_problem
-  near f h = t.near f (rw t.fields h)
+  near f h = w.near f (rw w.fields h)
 
   -- the network of a sheet is what the engines ask
-  pub network-hoods : Hoods (problem_in net forward turned triples) net.hood
-  network-hoods = rw holds (hoods-at xs net.hood near)
+  pub network-hoods : Hoods (problem t) (hoods t)
+  network-hoods = rw holds (hoods-at xs (hoods t) near)
 
   -- What `run` asks, from an order of the sheet's fields, a mask of these and a set with settings of these fields only.
   pub run-asks : (order : List ℕ) (selected : ℕ) (S : List ℕ) → IsOrder (fields_of xs) order
       → ((f : ℕ) → bit selected f ≡ true → f < fields_of xs) → Masks S → ((f v : ℕ) → has S f v ≡ true → f < fields_of xs)
-      → RunAsks net forward turned triples order selected S
+      → RunAsks t order selected S
   unfolding problem_of
   run-asks order selected S visits low masks on = (
-    record { wired = t.wired; table = rw t.fields d.table; masks = masks; on = λ f v h. rw t.fields (on f v h) },
+    record { wired = w.wired; table = rw w.fields d.table; masks = masks; on = λ f v h. rw w.fields (on f v h) },
     record {
-      visits = rw t.fields visits;
-      selected-fields = λ f b. (in_all_fields (problem_in net forward turned triples) f (rw t.fields (low f b))).1;
-      hoods = network-hoods;
+      visits = rw w.fields visits;
+      selected-fields = λ f b. (in_all_fields (problem t) f (rw w.fields (low f b))).1;
+      near = network-hoods;
     },
   )
 
   -- An engine on the network of a sheet answers with the sheet's offers at its reach, under the same selected fields.
-  pub answers : (selected : ℕ) (S : List ℕ) (wiped : Bool) (R : List ℕ)
-      → Engine (problem_in net forward turned triples) net.hood selected S wiped R
+  pub answers : (selected : ℕ) (S : List ℕ) (wiped : Bool) (R : List ℕ) → Engine (problem t) (hoods t) selected S wiped R
       → Offered (sheet_problem xs) (neighbourhood (sheet_problem xs) (reach_of xs)) selected S wiped R
   unfolding wiped_out hood_in
   answers selected S wiped R e =
       let P = sheet_problem xs in
-      let own : Engine P net.hood selected S wiped R = rw holds at e in
-      let same = offers-same-hoods P (hood_in net.hood) (neighbourhood P (reach_of xs)) selected (λ f i. near f i.0) S in
+      let own : Engine P (hoods t) selected S wiped R = rw holds at e in
+      let same = offers-same-hoods P (hood_in (hoods t)) (neighbourhood P (reach_of xs)) selected (λ f i. near f i.0) S in
       record { wipes = own.wipes ∙ ap (some_empty P.fields) same; made = λ z. own.made z ∙ same }

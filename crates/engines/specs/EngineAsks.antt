@@ -1,59 +1,47 @@
 -- What the engines ask, and that their parts ask no more. Assumes nothing.
-use Rattle.std.specs.Prelude.{◌≡◌, refl, true, false, List, ℕ, ◌≤◌, ◌<◌, length, get_or, replicate}
+use Rattle.std.specs.Prelude.{◌≡◌, refl, true, false, List, ℕ, ◌≤◌, ◌<◌, length, get_or}
 use Rattle.std.proofs.Common.{◌∙◌, arith}
-use Rattle.std.proofs.lemmas.List.{length-replicate}
-use Rattle.limits.specs.Limits.{most_fields, counter_words, support_words, list_places}
+use Rattle.limits.specs.Limits.{most_fields}
 use Rattle.masks.specs.Bits.{bit, Within}
-use Rattle.masks.specs.Sets.{get_d_zeros}
 use Rattle.masks.specs.Settings.{some_empty}
 use Rattle.consistency.specs.Problem.{Problem, In, OnFields, all_fields}
-use Rattle.network.specs.declared.build.Network.{Network}
-use Rattle.network.specs.Tables.{Wired}
-use Rattle.network.specs.TripleTable.{problem_of, TripleTable}
+use Rattle.network.specs.declared.tables.Tables.{Tables}
+use Rattle.network.specs.TripleTable.{problem_of}
+use Rattle.network.specs.Network.{problem, hoods, WiredTables, Tripled}
 use Rattle.pruning.specs.Shrunk.{small_⊆}
+use Rattle.closing.specs.declared.ac4.Ac4.{Ac4}
 use Rattle.closing.specs.Asks.{Masks, Blank, CloseAsks, LiveAsks, asks-shrunk}
 use Rattle.visiting.specs.Store.{HoodAsks}
 use Rattle.engines.specs.Engine.{IsOrder, Hoods, Begun, all_full, Kept}
 
 -- a set as it is given: settings of the problem's fields only
-pub record StartAsks (n : ℕ) (joined forward turned triples : List ℕ) (S : List ℕ) : Type 0 where
-  pub wired : Wired n joined forward turned
-  pub table : TripleTable n triples
+pub record StartAsks (t : Tables) (S : List ℕ) : Type 0 where
+  pub wired : WiredTables t
+  pub table : Tripled t
   pub masks : Masks S
-  pub on : OnFields (problem_of n joined forward turned triples) S
+  pub on : OnFields (problem t) S
 
 -- an order, the mask of the selected fields, and the masks of the neighbourhoods
-pub record Lent (n : ℕ) (joined forward turned triples : List ℕ) (order : List ℕ) (selected : ℕ) (hood : List ℕ) : Type 0 where
-  pub visits : IsOrder n order
-  pub selected-fields : Within selected (all_fields (problem_of n joined forward turned triples))
-  pub hoods : Hoods (problem_of n joined forward turned triples) hood
+pub record Lent (t : Tables) (order : List ℕ) (selected : ℕ) : Type 0 where
+  pub visits : IsOrder t.network.now.fields order
+  pub selected-fields : Within selected (all_fields (problem t))
+  pub near : Hoods (problem t) (hoods t)
 
 -- What an engine asks of a network, its tables, an order, a mask of selected fields and a set.
-abbrev pub RunAsks : Network → List ℕ → List ℕ → List ℕ → List ℕ → ℕ → List ℕ → Type 0
-RunAsks net forward turned triples order selected S =
-    StartAsks net.fields net.joined forward turned triples S
-    × Lent net.fields net.joined forward turned triples order selected net.hood
+abbrev pub RunAsks : Tables → List ℕ → ℕ → List ℕ → Type 0
+RunAsks t order selected S = StartAsks t S × Lent t order selected
 
--- arrays of zeros are the spaces of closing
-pub blank-zeros : Blank (replicate support_words 0) (replicate counter_words 0) (replicate counter_words 0) (replicate list_places 0)
-blank-zeros = record {
-  long-support = length-replicate {A = ℕ} support_words 0;
-  long_counter = length-replicate {A = ℕ} counter_words 0;
-  long-copy = length-replicate {A = ℕ} counter_words 0;
-  places = length-replicate {A = ℕ} list_places 0;
-  no_support = get_d_zeros support_words;
-  no_count = get_d_zeros counter_words;
-}
-
-module _ (n : ℕ) (joined forward turned triples : List ℕ) where
+module _ (t : Tables) where
   abbrev P : Problem
-  P = problem_of n joined forward turned triples
+  P = problem t
+
+  abbrev n : ℕ
+  n = t.network.now.fields
 
   -- closing at the start
-  pub start-asks : (S support counter copy list : List ℕ) → StartAsks n joined forward turned triples S → Blank support counter copy list
-      → some_empty n S ≡ false → CloseAsks n joined forward turned triples S support counter copy list
+  pub start-asks : (S : List ℕ) (c : Ac4) → StartAsks t S → Blank c → some_empty n S ≡ false → CloseAsks t S c
   unfolding problem_of
-  start-asks S support counter copy list a b e = record {
+  start-asks S c a b e = record {
     wired = a.wired;
     table = a.table;
     masks = a.masks;
@@ -61,8 +49,7 @@ module _ (n : ℕ) (joined forward turned triples : List ℕ) where
     blank = b;
   }
 
-  pub begun-asks : (S R : List ℕ) → StartAsks n joined forward turned triples S → Begun P S false R
-      → LiveAsks n joined forward turned triples R
+  pub begun-asks : (S R : List ℕ) → StartAsks t S → Begun P S false R → LiveAsks t R
   begun-asks S R a b = record {
     wired = a.wired;
     table = a.table;
@@ -70,14 +57,12 @@ module _ (n : ℕ) (joined forward turned triples : List ℕ) where
     live = b.live refl;
   }
 
-  pub kept-asks : {hood : List ℕ} {selected : ℕ} {S R : List ℕ} {touched : ℕ} → LiveAsks n joined forward turned triples S
-      → Kept P hood selected S touched R
-      → LiveAsks n joined forward turned triples R
-  kept-asks {S = S} a k = asks-shrunk n joined forward turned triples S a k.shrunk k.live
+  pub kept-asks : {hood : List ℕ} {selected : ℕ} {S R : List ℕ} {touched : ℕ} → LiveAsks t S → Kept P hood selected S touched R
+      → LiveAsks t R
+  kept-asks {S = S} a k = asks-shrunk t S a k.shrunk k.live
 
   -- what the visit of a field of the order asks
-  module _ (order : List ℕ) (selected : ℕ) (hood : List ℕ) (l : Lent n joined forward turned triples order selected hood)
-      (few : n ≤ most_fields)
+  module _ (order : List ℕ) (selected : ℕ) (l : Lent t order selected) (few : n ≤ most_fields)
       (q : ℕ) (h : q < n) where
     abbrev f : ℕ
     f = get_or order q 0
@@ -85,9 +70,9 @@ module _ (n : ℕ) (joined forward turned triples : List ℕ) where
     pub order-low : (q < length order) × (get_or order q 0 < most_fields)
     order-low = let a = l.visits.sized in let b = l.visits.low q h in (omega arith, omega arith)
 
-    pub visit-asks : (get_or order q 0 < n) × HoodAsks P hood (get_or order q 0)
+    pub visit-asks : (get_or order q 0 < n) × HoodAsks P (hoods t) (get_or order q 0)
     unfolding problem_of
-    visit-asks = let b = l.visits.low q h in (b, record { fields = l.hoods.fields f b; self = l.hoods.self f b })
+    visit-asks = let b = l.visits.low q h in (b, record { fields = l.near.fields f b; self = l.near.self f b })
 
     -- and that it is selected, where the mask has it
     pub visit-selected : bit selected (get_or order q 0) ≡ true → In P selected (get_or order q 0)

@@ -40,23 +40,17 @@ asks-on xs count order selected S rows after memory a e = record {
   room = a.room;
 }
 
--- ---- a table of triple rules, made of zeros: its front alone where there are none, and room for all that a sheet may have
+-- ---- a table of triple rules, made of zeros
 
-zeros-asks : (xs full : List ℕ) → Accepted xs → full ≡ (outline_of xs).full → (words : ℕ)
-    → triples_front + triples_of xs * triple_words ≤ words
-    → Accepted xs × (full ≡ (outline_of xs).full) × (triples_front + triples_of xs * triple_words ≤ length {A = ℕ} (replicate words 0))
-    × ZerosFrom 0 (replicate words 0)
-zeros-asks xs full a e words h = (a, e, (let n = length-replicate {A = ℕ} words 0 in omega arith), λ q _. get_d_zeros words q)
-
-module _ (xs : List ℕ) (net : Network) (forward turned : List ℕ) (t : NetworkOf xs net forward turned) (a : Accepted xs) (full : List ℕ)
-    (e : full ≡ (outline_of xs).full) where
-  pub zeros-front : net.triples ≡ 0
+module _ (xs : List ℕ) (net : Network) (forward turned : List ℕ) (t : NetworkOf xs net forward turned) (a : Accepted xs) where
+  -- with room for the triple rules that there are
+  pub zeros-room : (full : List ℕ) → full ≡ (outline_of xs).full → (words : ℕ) → triples_front + net.triples * triple_words ≤ words
       → Accepted xs × (full ≡ (outline_of xs).full)
-      × (triples_front + triples_of xs * triple_words ≤ length {A = ℕ} (replicate triples_front 0))
-      × ZerosFrom 0 (replicate triples_front 0)
-  zeros-front z = zeros-asks xs full a e triples_front (let n = t.triples in omega arith)
+      × (triples_front + triples_of xs * triple_words ≤ length {A = ℕ} (replicate words 0))
+      × ZerosFrom 0 (replicate words 0)
+  zeros-room full e words h =
+      (a, e, (let n = t.triples in let l = length-replicate {A = ℕ} words 0 in omega arith), λ q _. get_d_zeros words q)
 
-  pub zeros-table : Accepted xs × (full ≡ (outline_of xs).full)
-      × (triples_front + triples_of xs * triple_words ≤ length {A = ℕ} (replicate triples_words 0))
-      × ZerosFrom 0 (replicate triples_words 0)
-  zeros-table = zeros-asks xs full a e triples_words (let n = (facts xs a).triples-few in omega arith)
+  -- room for all that a sheet may have is enough
+  pub room-all : triples_front + net.triples * triple_words ≤ triples_words
+  room-all = let few = (facts xs a).triples-few in let n = t.triples in omega arith

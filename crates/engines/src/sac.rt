@@ -2,58 +2,36 @@
 // remembers what passed tests left in their neighbourhoods, and tests a setting again only where the set lost some of it.
 ghost use Rattle.std.specs.Prelude.{◌≡◌, false, ◌≤◌, ◌<◌, length, get_or};
 ghost use Rattle.limits.specs.Limits.{most_fields, memory_words};
-ghost use Rattle.network.specs.Network.{problem_in};
+ghost use Rattle.limits.specs.Refusals.{is_wiped, fields_in};
+ghost use Rattle.network.specs.Network.{problem, hoods};
 ghost use Rattle.closing.specs.Asks.{LiveAsks, Blank, Counted};
 ghost use Rattle.visiting.specs.Store.{Store};
 ghost use Rattle.engines.specs.Engine.{Begun, Engine};
 ghost use Rattle.engines.specs.EngineAsks.{StartAsks, Lent, RunAsks};
 ghost use Rattle.engines.specs.Pass.{Passed};
 
-use closing::close::{Narrowed, close};
-use limits::{COUNTER_WORDS, FIELDS, LIST_PLACES, SUPPORT_WORDS};
+use closing::ac4::Ac4;
+use closing::close::close;
+use limits::FIELDS;
+use limits::refusals::WipedOut;
 use masks::{Domains, has_bit};
-use network::build::Network;
+use network::tables::Tables;
 use visiting::visit::visit;
 
-// How every engine starts: where no field is empty, it closes over every field. Whether the set is wiped out already.
-pub fn begin<'a>(
-    m: &mut [u32; FIELDS],
-    net: Network,
-    counter: &mut [u32; COUNTER_WORDS],
-    copy: &mut [u32; COUNTER_WORDS],
-    support: &mut [u32; SUPPORT_WORDS],
-    list: &mut [u32; LIST_PLACES],
-    forward: &'a [u32],
-    turned: &'a [u32],
-    triples: &[u32],
-) -> bool
-    requires start_asks { StartAsks net.fields net.joined forward.now turned.now triples.now m.old }
-    requires blank { Blank support.old counter.old copy.old list.old }
-    ensures { Begun (problem_in net forward.now turned.now triples.now) m.old result
-        m.new
-        × (result ≡ false → Counted (problem_in net forward.now turned.now triples.now) support.new
-        counter.new
-        copy.new list.new m.new) }
+// How every engine starts: where no field is empty, it closes over every field.
+pub fn begin<'a>(m: &mut [u32; FIELDS], ac4: &mut Ac4, tables: &Tables<'a>) -> Result<(), WipedOut>
+    requires start_asks { StartAsks tables.now m.old }
+    requires blank { Blank ac4.old }
+    ensures begun { Begun (problem tables.now) m.old (is_wiped result) m.new }
+    ensures counted { is_wiped result ≡ false → Counted (problem tables.now) ac4.new m.new }
 {
-    let n = net.fields;
     let masks = *m;
     let set = Domains { masks };
-    if set.some_empty(n) {
-        return true;
+    if set.some_empty(tables.network.fields) {
+        return Err(WipedOut);
     }
-    let r = close(
-        m,
-        n,
-        counter,
-        copy,
-        support,
-        list,
-        &net.joined,
-        forward,
-        turned,
-        triples,
-    );
-    r.wiped
+    close(m, ac4, tables)?;
+    Ok(())
 }
 
 // The field at a place of the order.
@@ -64,7 +42,7 @@ pub fn field_at(order: &[u8], q: usize) -> usize
     order[q] as usize
 }
 
-// One pass over the selected fields, in the lent order.
+// One pass over the selected fields, in the lent order. The fields that lost settings.
 fn pass<'a>(
     m: &mut [u32; FIELDS],
     known: &mut [u32; FIELDS],
@@ -72,96 +50,51 @@ fn pass<'a>(
     remembers: bool,
     order: &[u8],
     selected: u32,
-    net: Network,
-    counter: &mut [u32; COUNTER_WORDS],
-    copy: &mut [u32; COUNTER_WORDS],
-    support: &[u32; SUPPORT_WORDS],
-    list: &mut [u32; LIST_PLACES],
-    forward: &'a [u32],
-    turned: &'a [u32],
-    triples: &[u32],
-) -> Narrowed
-    requires live_asks { LiveAsks net.fields net.joined forward.now turned.now triples.now m.old
-        × Store (problem_in net forward.now turned.now triples.now) net.hood m.old known.old memory.old }
-    requires lent { Lent net.fields net.joined forward.now turned.now triples.now order.now selected net.hood }
-    requires counted { Counted (problem_in net forward.now turned.now triples.now) support.now counter.old copy.old list.old
-        m.old }
-    ensures { Passed (problem_in net forward.now turned.now triples.now) order.now
-        net.hood selected
-        m.old result.wiped result.changed m.new
-        × (result.wiped ≡ false → Store (problem_in net forward.now turned.now triples.now) net.hood
-        m.new
-        known.new memory.new)
-        × (result.wiped ≡ false → Counted (problem_in net forward.now turned.now triples.now)
-        support.now
-        counter.new copy.new list.new m.new) }
+    ac4: &mut Ac4,
+    tables: &Tables<'a>,
+) -> Result<u32, WipedOut>
+    requires live_asks { LiveAsks tables.now m.old × Store (problem tables.now) (hoods tables.now) m.old known.old memory.old }
+    requires lent { Lent tables.now order.now selected }
+    requires counted { Counted (problem tables.now) ac4.old m.old }
+    ensures passed { Passed (problem tables.now) order.now (hoods tables.now) selected m.old (is_wiped result) (fields_in result) m.new }
+    ensures store { is_wiped result ≡ false → Store (problem tables.now) (hoods tables.now) m.new known.new memory.new }
+    ensures counted { is_wiped result ≡ false → Counted (problem tables.now) ac4.new m.new }
+    ensures support { ac4.new.support ≡ ac4.old.support }
 {
-    let n = net.fields;
     let mut touched: u32 = 0;
-    let mut q: usize = 0;
-    while q < n {
+    for q in 0..tables.network.fields {
         let f = field_at(order, q);
-        q += 1;
         if has_bit(selected, f) {
-            let r = visit(
-                m, known, memory, remembers, f, net, counter, copy, support, list, forward, turned,
-                triples,
-            );
-            if r.wiped {
-                return Narrowed {
-                    wiped: true,
-                    changed: touched,
-                };
-            }
-            touched |= r.changed;
+            touched |= visit(m, known, memory, remembers, f, ac4, tables)?;
         }
     }
-    Narrowed {
-        wiped: false,
-        changed: touched,
-    }
+    Ok(touched)
 }
 
-// Engine 1, and with `remembers` engine 2. Whether the set is wiped out; if not, m becomes its offers.
+// Engine 1, and with `remembers` engine 2. Where the set is not wiped out, m becomes its offers.
 pub fn sac<'a>(
     m: &mut [u32; FIELDS],
     memory: &mut [u32],
     remembers: bool,
     order: &[u8],
     selected: u32,
-    net: Network,
-    counter: &mut [u32; COUNTER_WORDS],
-    copy: &mut [u32; COUNTER_WORDS],
-    support: &mut [u32; SUPPORT_WORDS],
-    list: &mut [u32; LIST_PLACES],
-    forward: &'a [u32],
-    turned: &'a [u32],
-    triples: &[u32],
-) -> bool
-    requires run_asks { RunAsks net forward.now turned.now triples.now order.now selected m.old }
+    ac4: &mut Ac4,
+    tables: &Tables<'a>,
+) -> Result<(), WipedOut>
+    requires run_asks { RunAsks tables.now order.now selected m.old }
     requires memory_words_in_bounds { memory_words ≤ length memory.old }
-    requires blank { Blank support.old counter.old copy.old list.old }
-    ensures { Engine (problem_in net forward.now turned.now triples.now) net.hood selected
-        m.old result
-        m.new }
+    requires blank { Blank ac4.old }
+    ensures { Engine (problem tables.now) (hoods tables.now) selected m.old (is_wiped result) m.new }
 {
-    if begin(
-        m, net, counter, copy, support, list, forward, turned, triples,
-    ) {
-        return true;
-    }
+    begin(m, ac4, tables)?;
     let mut known = [0u32; FIELDS];
     loop {
-        let r = pass(
-            m, &mut known, memory, remembers, order, selected, net, counter, copy, support, list,
-            forward, turned, triples,
-        );
-        if r.wiped {
-            return true;
-        }
-        let same = r.changed == 0;
+        let touched = pass(
+            m, &mut known, memory, remembers, order, selected, ac4, tables,
+        )?;
+        let same = touched == 0;
         if same {
-            return false;
+            return Ok(());
         }
     }
 }

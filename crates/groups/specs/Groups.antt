@@ -1,31 +1,36 @@
 -- A number in bytes: groups of seven bits, lowest first, the top bit set on every byte but the last; at most four groups and the fewest
 -- possible. Assumes nothing.
-use Rattle.std.specs.Prelude.{◌≡◌, ◌⊎◌, Bool, true, false, ◌&&◌, List, [], ◌∷◌, ltb, eqb, length, drop, get_or}
+use Rattle.std.specs.Prelude.{◌≡◌, ◌⊎◌, Bool, true, false, ◌&&◌, List, [], ◌∷◌, ltb, eqb, length, drop, get_or, Result, Ok, Err}
 use Rattle.std.proofs.Math.Path.{refl, ap}
 use Rattle.std.proofs.Common.{sym, ◌∙◌, inl, inr, ⊎_elim, arith, drop_of_length-le, length-drop, drop-cons}
 use Prim.Native.Nat.{ℕ, zero, suc, ◌+◌, ◌-◌, ◌*◌, ◌/◌, ◌%◌, ◌<◌, ◌≤◌}
 use Rattle.std.proofs.Math.Numerals.{add-one, sub-one}
 use borrow.Author.Tests.{lt-ltb, le-ltb, ltb-true, ltb-false}
 use Rattle.masks.specs.Pick.{pick, pick_true, pick-false}
+use Rattle.limits.specs.declared.refusals.Refusal.{Refusal}
+use Rattle.limits.specs.declared.refusals.Refusal.TheVariants.{EndsInside, IllFormed}
 use Rattle.groups.specs.declared.groups.Number.{Number}
-use Rattle.groups.specs.declared.groups.Number.TheVariants.{Value, Ended, IllFormed}
+
+-- the number x, and the place after it
+abbrev pub found : ℕ → ℕ → Result Number Refusal
+found x next = Ok (record { value = x; next = next })
 
 -- the last group b of a number: not 0 where another group stands before it
-abbrev pub last_group : Bool → ℕ → ℕ → Number
-last_group short x next = pick short IllFormed (Value x next)
+abbrev pub last_group : Bool → ℕ → ℕ → Result Number Refusal
+last_group short x next = pick short (Err IllFormed) (found x next)
 
 -- The number of which groups of the weights below w have come to v, with `left` groups allowed still, l being the bytes from place `at` on.
 -- A list in the logic may hold what is no byte; that is no group. A slice of bytes has none.
-unfoldable pub groups : (left w v at : ℕ) → List ℕ → Number
-groups zero w v at l = IllFormed
-groups (suc left) w v at [] = Ended
+unfoldable pub groups : (left w v at : ℕ) → List ℕ → Result Number Refusal
+groups zero w v at l = Err IllFormed
+groups (suc left) w v at [] = Err EndsInside
 groups (suc left) w v at (b ∷ l) =
     pick (ltb b 128)
     (last_group (ltb 1 w && eqb b 0) (v + w * b) (at + 1))
-    (pick (ltb b 256) (groups left (w * 128) (v + w * (b - 128)) (at + 1) l) IllFormed)
+    (pick (ltb b 256) (groups left (w * 128) (v + w * (b - 128)) (at + 1) l) (Err IllFormed))
 
 -- The number at a place of the bytes s.
-unfoldable pub number_at : List ℕ → ℕ → Number
+unfoldable pub number_at : List ℕ → ℕ → Result Number Refusal
 number_at s at = groups 4 1 0 at (drop at s)
 
 -- The groups of a number, `left` at most.
@@ -39,11 +44,11 @@ encode x = encode_in 4 x
 -- ---- what a turn of a loop over the groups uses: the byte at place i of s
 
 module _ (s : List ℕ) (w v i : ℕ) where
-  pub groups_none : groups 0 w v i (drop i s) ≡ IllFormed
+  pub groups_none : groups 0 w v i (drop i s) ≡ Err IllFormed
   unfolding groups
   groups_none = refl
 
-  pub groups_ended : (left : ℕ) → 0 < left → length s ≤ i → groups left w v i (drop i s) ≡ Ended
+  pub groups_ended : (left : ℕ) → 0 < left → length s ≤ i → groups left w v i (drop i s) ≡ Err EndsInside
   unfolding groups
   groups_ended zero p h = absurd (omega arith)
   groups_ended (suc left) p h = rw (drop_of_length-le s h)
@@ -63,26 +68,29 @@ module _ (s : List ℕ) (w v i : ℕ) where
 -- ---- the place after a number
 
 -- the last group's two outcomes
-last-number : (t : Bool) (y m x next : ℕ) → last_group t y m ≡ Value x next → (t ≡ false) × (x ≡ y) × (next ≡ m)
+last-number : (t : Bool) (y m x next : ℕ) → last_group t y m ≡ found x next → (t ≡ false) × (x ≡ y) × (next ≡ m)
 unfolding pick
 last-number true y m x next e = let z : ◌≡◌ {A = ℕ} 0 1 = cc in absurd (omega arith)
-last-number false y m x next e = (refl, cc, cc)
+last-number false y m x next e =
+    let q : ◌≡◌ {A = Number} (record { value = y; next = m }) (record { value = x; next = next }) = cc in
+    (refl, sym (ap (λ (n : Number). n.value) q), sym (ap (λ (n : Number). n.next) q))
 
 -- a group that continues is a byte
-byte_number : (t : Bool) (m : Number) (x next : ℕ) → pick t m IllFormed ≡ Value x next → (t ≡ true) × (m ≡ Value x next)
+byte_number : (t : Bool) (m : Result Number Refusal) (x next : ℕ) → pick t m (Err IllFormed) ≡ found x next
+    → (t ≡ true) × (m ≡ found x next)
 unfolding pick
 byte_number true m x next e = (refl, e)
 byte_number false m x next e = let z : ◌≡◌ {A = ℕ} 0 1 = cc in absurd (omega arith)
 
 -- a number read in its groups: the first is the last, or one of those before
-pub groups-number : (left w v at b x next : ℕ) (l : List ℕ) → groups (suc left) w v at (b ∷ l) ≡ Value x next
+pub groups-number : (left w v at b x next : ℕ) (l : List ℕ) → groups (suc left) w v at (b ∷ l) ≡ found x next
     → ((b < 128) × ((ltb 1 w && eqb b 0) ≡ false) × (x ≡ v + w * b) × (next ≡ at + 1))
-    ⊎ ((128 ≤ b) × (b < 256) × (groups left (w * 128) (v + w * (b - 128)) (at + 1) l ≡ Value x next))
+    ⊎ ((128 ≤ b) × (b < 256) × (groups left (w * 128) (v + w * (b - 128)) (at + 1) l ≡ found x next))
 unfolding groups
 groups-number left w v at b x next l e = go (ltb b 128) refl
   where
     go : (t : Bool) → ltb b 128 ≡ t → ((b < 128) × ((ltb 1 w && eqb b 0) ≡ false) × (x ≡ v + w * b) × (next ≡ at + 1))
-        ⊎ ((128 ≤ b) × (b < 256) × (groups left (w * 128) (v + w * (b - 128)) (at + 1) l ≡ Value x next))
+        ⊎ ((128 ≤ b) × (b < 256) × (groups left (w * 128) (v + w * (b - 128)) (at + 1) l ≡ found x next))
     go true q =
         let r = last-number (ltb 1 w && eqb b 0) (v + w * b) (at + 1) x next (sym (pick_true (ltb b 128) _ _ q) ∙ e) in
         inl (ltb-true b 128 q, r.0, r.1, r.2)
@@ -91,16 +99,16 @@ groups-number left w v at b x next l e = go (ltb b 128) refl
         inr (ltb-false b 128 q, ltb-true b 256 r.0, r.1)
 
 -- no number where none is left, and none at the end
-pub groups_nothing : (w v at x next : ℕ) (l : List ℕ) → groups 0 w v at l ≡ Value x next → ⊥
+pub groups_nothing : (w v at x next : ℕ) (l : List ℕ) → groups 0 w v at l ≡ found x next → ⊥
 unfolding groups
 groups_nothing w v at x next l e = let z : ◌≡◌ {A = ℕ} 0 1 = cc in omega arith
 
-pub groups-empty : (left w v at x next : ℕ) → groups left w v at [] ≡ Value x next → ⊥
+pub groups-empty : (left w v at x next : ℕ) → groups left w v at [] ≡ found x next → ⊥
 unfolding groups
 groups-empty zero w v at x next e = let z : ◌≡◌ {A = ℕ} 0 1 = cc in omega arith
 groups-empty (suc left) w v at x next e = let z : ◌≡◌ {A = ℕ} 0 1 = cc in omega arith
 
-groups-next : (left w v at x next : ℕ) (l : List ℕ) → groups left w v at l ≡ Value x next → (at < next) × (next ≤ at + length l)
+groups-next : (left w v at x next : ℕ) (l : List ℕ) → groups left w v at l ≡ found x next → (at < next) × (next ≤ at + length l)
 groups-next zero w v at x next l e = absurd (groups_nothing w v at x next l e)
 groups-next (suc left) w v at x next [] e = absurd (groups-empty (suc left) w v at x next e)
 groups-next (suc left) w v at x next (b ∷ l) e =
@@ -108,9 +116,36 @@ groups-next (suc left) w v at x next (b ∷ l) e =
     (λ r. let q = groups-next left (w * 128) (v + w * (b - 128)) (at + 1) x next l r.2 in omega arith)
     (groups-number left w v at b x next l e)
 
-pub number-next : (s : List ℕ) (at x next : ℕ) → at < length s → number_at s at ≡ Value x next → (at < next) × (next ≤ length s)
+pub number-next : (s : List ℕ) (at x next : ℕ) → at < length s → number_at s at ≡ found x next → (at < next) × (next ≤ length s)
 unfolding number_at
 number-next s at x next h e = let r = groups-next _ 1 0 at x next (drop at s) e in omega (arith, r, length-drop at s)
+
+-- ---- why no number is read: the bytes end inside one, or the groups are none
+
+last_refused : (t : Bool) (y m : ℕ) (r : Refusal) → last_group t y m ≡ Err r → r ≡ IllFormed
+unfolding pick
+last_refused true y m r e = cc
+last_refused false y m r e = let z : ◌≡◌ {A = ℕ} 0 1 = cc in absurd (omega arith)
+
+group-refused : (t u short : Bool) (y m : ℕ) (after : Result Number Refusal) (r : Refusal)
+    → (after ≡ Err r → (r ≡ EndsInside) ⊎ (r ≡ IllFormed))
+    → pick t (last_group short y m) (pick u after (Err IllFormed)) ≡ Err r → (r ≡ EndsInside) ⊎ (r ≡ IllFormed)
+unfolding pick
+group-refused true u short y m after r h e = inr (last_refused short y m r e)
+group-refused false true short y m after r h e = h e
+group-refused false false short y m after r h e = inr cc
+
+groups-refused : (left w v at : ℕ) (l : List ℕ) (r : Refusal) → groups left w v at l ≡ Err r → (r ≡ EndsInside) ⊎ (r ≡ IllFormed)
+unfolding groups
+groups-refused zero w v at l r e = inr cc
+groups-refused (suc left) w v at [] r e = inl cc
+groups-refused (suc left) w v at (b ∷ l) r e =
+    group-refused (ltb b 128) (ltb b 256) (ltb 1 w && eqb b 0) (v + w * b) (at + 1) (groups left (w * 128) (v + w * (b - 128)) (at + 1) l) r
+    (groups-refused left (w * 128) (v + w * (b - 128)) (at + 1) l r) e
+
+pub number-refused : (s : List ℕ) (at : ℕ) (r : Refusal) → number_at s at ≡ Err r → (r ≡ EndsInside) ⊎ (r ≡ IllFormed)
+unfolding number_at
+number-refused s at r e = groups-refused 4 1 0 at (drop at s) r e
 
 -- ---- the groups of a number, one by one
 

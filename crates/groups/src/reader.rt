@@ -3,6 +3,7 @@ ghost use Rattle.std.specs.Prelude.{◌≡◌};
 ghost use Rattle.groups.specs.Groups.{number_at};
 
 use super::groups::{Number, number_at};
+use limits::refusals::Refusal;
 
 #[derive(Clone, Copy)]
 pub struct Reader<'a> {
@@ -10,33 +11,35 @@ pub struct Reader<'a> {
     pub place: usize,
 }
 
-// A reader at the beginning of a sheet.
-pub fn new<'a>(sheet: &'a [u8]) -> Reader<'a>
-    ensures { (result.sheet ≡ sheet.entry) × (result.place ≡ 0) }
-{
-    Reader { sheet, place: 0 }
-}
+impl<'a> Reader<'a> {
+    // A reader at the beginning of a sheet.
+    pub fn new(sheet: &'a [u8]) -> Reader<'a>
+        ensures { (result.sheet ≡ sheet.entry) × (result.place ≡ 0) }
+    {
+        Reader { sheet, place: 0 }
+    }
 
-// The same reader, further on.
-pub fn moved<'a>(r: Reader<'a>, place: usize) -> Reader<'a>
-    ensures { (result.sheet ≡ r.entry.sheet) × (result.place ≡ place) }
-{
-    Reader {
-        sheet: r.sheet,
-        place,
+    // The same reader, at another place.
+    pub fn moved(self, place: usize) -> Reader<'a>
+        ensures { (result.sheet ≡ self.entry.sheet) × (result.place ≡ place) }
+    {
+        Reader {
+            sheet: self.sheet,
+            place,
+        }
+    }
+
+    // The next number.
+    pub fn next(self) -> Result<Number, Refusal>
+        ensures { result ≡ number_at self.entry.sheet.now self.entry.place }
+    {
+        number_at(self.sheet, self.place)
     }
 }
 
-// The next number.
-pub fn next<'a>(r: Reader<'a>) -> Number
-    ensures { result ≡ number_at r.entry.sheet.now r.entry.place }
-{
-    number_at(r.sheet, r.place)
-}
-
 // The number at a place of a sheet. Each number of a sheet is read here.
-pub fn read_number(sheet: &[u8], place: usize) -> Number
+pub fn read_number(sheet: &[u8], place: usize) -> Result<Number, Refusal>
     ensures { result ≡ number_at sheet.now place }
 {
-    next(moved(new(sheet), place))
+    Reader::new(sheet).moved(place).next()
 }

@@ -1,23 +1,23 @@
 // The support sets are made: S_jb of Figure 2, by words as `support_set` in crate `pruning` reads them.
 ghost use Rattle.std.specs.Prelude.{◌≡◌, false, ◌^◌, ◌≤◌, ◌<◌, length};
-ghost use Rattle.limits.specs.Limits.{most_fields, most_settings, table_words, support_words};
+ghost use Rattle.limits.specs.Limits.{most_fields, most_settings, table_words};
 ghost use Rattle.masks.specs.Bits.{bit};
 ghost use Rattle.network.specs.Tables.{rows_of};
 ghost use Rattle.initializing.specs.Record.{Floods, RecordedArc, RecordedArcs};
 
 use limits::{FIELDS, SETTINGS, SUPPORT_WORDS};
-use masks::{clear_bit, flood, lowest_bit};
+use masks::flood;
+use masks::positions::positions;
 use network::rows::row;
+use network::tables::Tables;
 
 // The floods of the positions of own.
 fn floods(own: u32) -> [u32; SETTINGS]
     ensures { Floods own most_settings result }
 {
     let mut masks = [0u32; SETTINGS];
-    let mut b: usize = 0;
-    while b < SETTINGS {
+    for b in 0..SETTINGS {
         masks[b] = flood(own, b);
-        b += 1;
     }
     masks
 }
@@ -30,19 +30,16 @@ fn record_arc<'a>(
     i: usize,
     masks: &[u32; SETTINGS],
     di: u32,
-    forward: &'a [u32],
-    turned: &'a [u32],
+    tables: &Tables<'a>,
 )
-    requires { (j < most_fields) × (i < most_fields) × (j ≡ i → ⊥) × (length support.old ≡ support_words)
-        × (table_words ≤ length forward.now) × (table_words ≤ length turned.now) }
-    ensures { RecordedArc (rows_of forward.now turned.now j i) j i masks.now di
+    requires { (j < most_fields) × (i < most_fields) × (j ≡ i → ⊥)
+        × (table_words ≤ length tables.now.forward.now) × (table_words ≤ length tables.now.turned.now) }
+    ensures { RecordedArc (rows_of tables.now.forward.now tables.now.turned.now j i) j i masks.now di
         support.old most_settings support.new }
 {
-    let rows = row(forward, turned, j, i);
-    let mut b: usize = 0;
-    while b < SETTINGS {
+    let rows = row(tables.forward, tables.turned, j, i);
+    for b in 0..SETTINGS {
         support[(j * SETTINGS + b) * FIELDS + i] = rows[b] & masks[b] & di;
-        b += 1;
     }
 }
 
@@ -52,19 +49,15 @@ pub fn record<'a>(
     j: usize,
     near: u32,
     d: &[u32; FIELDS],
-    forward: &'a [u32],
-    turned: &'a [u32],
+    tables: &Tables<'a>,
 )
-    requires { (j < most_fields) × (near < 2 ^ most_fields) × (bit near j ≡ false) × (length support.old ≡ support_words)
-        × (table_words ≤ length forward.now) × (table_words ≤ length turned.now) }
-    ensures { RecordedArcs (λ i. rows_of forward.now turned.now j i) j near d.now
+    requires { (j < most_fields) × (near < 2 ^ most_fields) × (bit near j ≡ false)
+        × (table_words ≤ length tables.now.forward.now) × (table_words ≤ length tables.now.turned.now) }
+    ensures { RecordedArcs (λ i. rows_of tables.now.forward.now tables.now.turned.now j i) j near d.now
         support.old 0 support.new }
 {
     let masks = floods(d[j]);
-    let mut left = near;
-    while left != 0 {
-        let i = lowest_bit(left);
-        left = clear_bit(left, i);
-        record_arc(support, j, i, &masks, d[i], forward, turned);
+    for i in positions(near) {
+        record_arc(support, j, i, &masks, d[i], tables);
     }
 }

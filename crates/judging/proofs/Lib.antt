@@ -1,2 +1,3 @@
 -- What the check cites by itself of `judging`.
 pub mod Counts
+pub mod Engines

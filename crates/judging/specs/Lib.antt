@@ -1,2 +1,1 @@
 -- What the proofs of `judging` cite.
-pub mod Changes

@@ -7,16 +7,7 @@ ghost use Rattle.ledger.specs.Ledger.{is_order};
 fn occurrences(order: &[u8], f: usize) -> usize
     ensures { result ≡ occurrences f order.now }
 {
-    let mut times: usize = 0;
-    let mut q: usize = 0;
-    while q < order.len() {
-        let g = order[q] as usize;
-        q += 1;
-        if g == f {
-            times += 1;
-        }
-    }
-    times
+    order.iter().filter(|g| **g as usize == f).count()
 }
 
 // Whether the list has n bytes and holds every field just one time.
@@ -27,12 +18,10 @@ pub fn is_order(order: &[u8], n: usize) -> bool
     if order.len() != n {
         return false;
     }
-    let mut f: usize = 0;
-    while f < n {
+    for f in 0..n {
         if occurrences(order, f) != 1 {
             return false;
         }
-        f += 1;
     }
     true
 }

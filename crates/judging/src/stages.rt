@@ -1,126 +1,108 @@
 // The causes of a refusal by what is judged: the session, the mask of selected fields, the engine, the setting that a call names, the
-// order, the change of the decisions. Each function gives the number of the first cause that applies, 0 where none does.
-ghost use Rattle.std.specs.Prelude.{◌≡◌, ◌≤◌};
+// order, the change of the decisions. Each function gives the first cause that applies, if one does.
+ghost use Rattle.std.specs.Prelude.{◌≡◌, ◌≤◌, [], ◌∷◌};
+ghost use Rattle.limits.specs.Engines.{DecodesEngine};
 ghost use Rattle.limits.specs.Limits.{most_fields};
-ghost use Rattle.ledger.specs.Ledger.{change_of, added_again, withdrawn_unheld, first, selection_causes, form_causes, engine_causes};
-ghost use Rattle.ledger.specs.Ledger.{setting_causes, order_causes, change_causes, off_sheet};
+ghost use Rattle.limits.specs.Refusals.{number, number_of};
+ghost use Rattle.ledger.specs.Ledger.{because, first, selection_causes, form_causes, engine_causes, setting_causes, order_causes};
+ghost use Rattle.ledger.specs.Ledger.{added_again, withdrawn_unheld, change_causes, off_sheet};
 ghost use Rattle.session.specs.View.{decisions_of, view};
 
 use super::order::is_order;
 use accepted::outline::Outline;
-use ledger::{CHOOSE, Event, STRIKE, WITHDRAW_CHOICE, WITHDRAW_STRIKE};
+use ledger::{Change, Event};
 use limits::MOST_EVENTS;
-use limits::refusals::{
-    ADDED_AGAIN, MALFORMED, NO_ORDER, NO_ROOM, NO_SELECTION, NOT_IN_FORCE, UNKNOWN,
-};
+use limits::engine::Engine;
+use limits::refusals::Refusal;
 use session::Session;
-use session::decisions::{Decisions, held};
+use session::decisions::Decisions;
 use session::form::{malformed, no_selection, on_sheet};
 
-// 15: the session is malformed.
-pub fn judge_form(outline: Outline, session: Session) -> u32
-    requires { outline.fields ≤ most_fields }
-    ensures { result ≡ first (form_causes outline (view session)) }
+// Refused where the cause applies.
+pub fn refuse_if(applies: bool, refusal: Refusal) -> Result<(), Refusal>
+    ensures { number_of result ≡ first (because applies (number refusal) ∷ []) }
 {
-    if malformed(outline, session) {
-        return MALFORMED;
+    if applies {
+        return Err(refusal);
     }
-    0
+    Ok(())
+}
+
+// 15: the session is malformed.
+pub fn judge_form(outline: Outline, session: Session) -> Result<(), Refusal>
+    requires { outline.fields ≤ most_fields }
+    ensures { number_of result ≡ first (form_causes outline (view session)) }
+{
+    refuse_if(malformed(outline, session), Refusal::Malformed)
 }
 
 // 18: the mask of selected fields is empty or names a field beyond the sheet.
-pub fn judge_selection(outline: Outline, selected: u32) -> u32
+pub fn judge_selection(outline: Outline, selected: u32) -> Result<(), Refusal>
     requires { outline.fields ≤ most_fields }
-    ensures { result ≡ first (selection_causes outline selected) }
+    ensures { number_of result ≡ first (selection_causes outline selected) }
 {
-    if no_selection(outline, selected) {
-        return NO_SELECTION;
-    }
-    0
+    refuse_if(no_selection(outline, selected), Refusal::NoSelection)
 }
 
 // 7: the engine is not 1 to 3.
-pub fn judge_engine(engine: u32) -> u32
-    ensures { result ≡ first (engine_causes engine) }
+pub fn judge_engine(engine: u32) -> Result<Engine, Refusal>
+    ensures number { number_of result ≡ first (engine_causes engine) }
+    ensures decoded { DecodesEngine engine result }
 {
-    if (engine == 0) | (3 < engine) {
-        return UNKNOWN;
-    }
-    0
+    Engine::try_from(engine)
 }
 
 // Whether a decision is none on the sheet, or its kind none of the four.
-fn off_sheet(outline: Outline, e: Event) -> bool
-    ensures { result ≡ off_sheet outline (change_of e) }
+fn off_sheet(outline: Outline, k: Change) -> bool
+    ensures { result ≡ off_sheet outline k }
 {
-    let kind = e.kind;
-    match kind {
-        CHOOSE => !on_sheet(outline, e.field, e.position),
-        STRIKE => !on_sheet(outline, e.field, e.position),
-        WITHDRAW_CHOICE => !on_sheet(outline, e.field, e.position),
-        WITHDRAW_STRIKE => !on_sheet(outline, e.field, e.position),
-        _ => true,
+    match k {
+        Change::Adds(x) | Change::Withdraws(x) => !on_sheet(outline, x),
+        Change::Neither => true,
     }
 }
 
 // 7: the field or position is not on the sheet.
-pub fn judge_setting(outline: Outline, e: Event) -> u32
-    ensures { result ≡ first (setting_causes outline e) }
+pub fn judge_setting(outline: Outline, e: Event) -> Result<(), Refusal>
+    ensures { number_of result ≡ first (setting_causes outline e) }
 {
-    if off_sheet(outline, e) {
-        return UNKNOWN;
-    }
-    0
+    refuse_if(off_sheet(outline, e.change()), Refusal::Unknown)
 }
 
 // 9: the order does not hold every field just one time.
-pub fn judge_order(outline: Outline, order: &[u8]) -> u32
-    ensures { result ≡ first (order_causes outline order.now) }
+pub fn judge_order(outline: Outline, order: &[u8]) -> Result<(), Refusal>
+    ensures { number_of result ≡ first (order_causes outline order.now) }
 {
-    if !is_order(order, outline.fields) {
-        return NO_ORDER;
-    }
-    0
+    refuse_if(!is_order(order, outline.fields), Refusal::NoOrder)
 }
 
 // Whether the decision to add is in force.
-fn added_again(d: Decisions, e: Event) -> bool
-    ensures { result ≡ added_again (change_of e) (decisions_of d) }
+fn added_again(d: Decisions, k: Change) -> bool
+    ensures { result ≡ added_again k (decisions_of d) }
 {
-    let kind = e.kind;
-    match kind {
-        CHOOSE => held(d, false, e.field, e.position),
-        STRIKE => held(d, true, e.field, e.position),
-        _ => false,
+    match k {
+        Change::Adds(x) => d.holds(x),
+        Change::Withdraws(_) | Change::Neither => false,
     }
 }
 
 // Whether the decision to withdraw is not in force.
-fn withdrawn_unheld(d: Decisions, e: Event) -> bool
-    ensures { result ≡ withdrawn_unheld (change_of e) (decisions_of d) }
+fn withdrawn_unheld(d: Decisions, k: Change) -> bool
+    ensures { result ≡ withdrawn_unheld k (decisions_of d) }
 {
-    let kind = e.kind;
-    match kind {
-        WITHDRAW_CHOICE => !held(d, false, e.field, e.position),
-        WITHDRAW_STRIKE => !held(d, true, e.field, e.position),
-        _ => false,
+    match k {
+        Change::Withdraws(x) => !d.holds(x),
+        Change::Adds(_) | Change::Neither => false,
     }
 }
 
 // 10: the decision to add is in force. 11: the decision to withdraw is not. 12: 64 events and one to add.
-#[tactic(auto, using(crate::proofs::Counts::change_refused, crate::proofs::Counts::change_taken))]
-pub fn judge_change(session: Session, e: Event) -> u32
-    ensures { result ≡ first (change_causes e (view session)) }
+pub fn judge_change(session: Session, e: Event) -> Result<(), Refusal>
+    ensures { number_of result ≡ first (change_causes e (view session)) }
 {
     let d = session.decisions;
-    if added_again(d, e) {
-        return ADDED_AGAIN;
-    }
-    if withdrawn_unheld(d, e) {
-        return NOT_IN_FORCE;
-    }
-    if session.count == MOST_EVENTS {
-        return NO_ROOM;
-    }
-    0
+    let k = e.change();
+    refuse_if(added_again(d, k), Refusal::AddedAgain)?;
+    refuse_if(withdrawn_unheld(d, k), Refusal::NotInForce)?;
+    refuse_if(session.count == MOST_EVENTS, Refusal::NoRoom)
 }

@@ -17,11 +17,15 @@ use Rattle.accepted.specs.Lists.{tabulate}
 use Rattle.accepted.specs.Parts.{reach_of}
 use Rattle.accepted.specs.Outline.{outline_of}
 use Rattle.network.specs.SheetProblem.{sheet_problem}
+use Rattle.ledger.specs.declared.Decision.{Decision}
+use Rattle.ledger.specs.declared.Decision.TheVariants.{Choice, Strike}
+use Rattle.ledger.specs.declared.Change.{Change}
+use Rattle.ledger.specs.declared.Change.TheVariants.{Adds, Withdraws, Neither}
 use Rattle.ledger.specs.declared.Event.{Event}
 use Rattle.ledger.specs.declared.Call.{Call}
 use Rattle.ledger.specs.declared.Call.TheVariants.{Open, Show, Decide, Back, CoilOn}
 use Rattle.ledger.specs.Laws.{Alike, SameLedger}
-use Rattle.ledger.specs.Ledger.{Decision, choice, strike, Change, adds, withdraws, neither, change_of, Ledger, same_decision, in_force}
+use Rattle.ledger.specs.Ledger.{change_of, Ledger, same_decision, in_force}
 use Rattle.ledger.specs.Ledger.{with, without, applied, reverted, backed, step, settings, other_chosen, starts, start_set, offers_of}
 use Rattle.ledger.specs.Ledger.{wiped, Given, on_sheet, all_on_sheet, revertible, reversible, malformed, session_causes}
 use Rattle.ledger.specs.Ledger.{added_again, withdrawn_unheld, step_causes, judged, causes, number, after}
@@ -41,15 +45,15 @@ module _ (g : Given) (c : Call) (l : Ledger) where
 
 pub decision-at : (d e : Decision) → same_decision d e ≡ true → d ≡ e
 unfolding same_decision
-decision-at (choice f v) (choice g u) q = ap₂ choice (eqb-true f g (and_l _ _ q)) (eqb-true v u (and_r (eqb f g) _ q))
-decision-at (choice f v) (strike g u) q = absurd (never q refl)
-decision-at (strike f v) (choice g u) q = absurd (never q refl)
-decision-at (strike f v) (strike g u) q = ap₂ strike (eqb-true f g (and_l _ _ q)) (eqb-true v u (and_r (eqb f g) _ q))
+decision-at (Choice f v) (Choice g u) q = ap₂ Choice (eqb-true f g (and_l _ _ q)) (eqb-true v u (and_r (eqb f g) _ q))
+decision-at (Choice f v) (Strike g u) q = absurd (never q refl)
+decision-at (Strike f v) (Choice g u) q = absurd (never q refl)
+decision-at (Strike f v) (Strike g u) q = ap₂ Strike (eqb-true f g (and_l _ _ q)) (eqb-true v u (and_r (eqb f g) _ q))
 
 pub decision-self : (d : Decision) → same_decision d d ≡ true
 unfolding same_decision
-decision-self (choice f v) = and-by _ _ (eq-eqb f f refl) (eq-eqb v v refl)
-decision-self (strike f v) = and-by _ _ (eq-eqb f f refl) (eq-eqb v v refl)
+decision-self (Choice f v) = and-by _ _ (eq-eqb f f refl) (eq-eqb v v refl)
+decision-self (Strike f v) = and-by _ _ (eq-eqb f f refl) (eq-eqb v v refl)
 
 -- ---- one decision more, one less
 
@@ -107,14 +111,14 @@ module _ (ds es : List Decision) (a : Alike ds es) where
   alike-without d e = in_force-without d ds e ∙ ap (λ (b : Bool). b && not (same_decision d e)) (a e) ∙ sym (in_force-without d es e)
 
   pub alike-applied : (k : Change) → Alike (applied k ds) (applied k es)
-  alike-applied (adds d) = alike-with d
-  alike-applied (withdraws d) = alike-without d
-  alike-applied neither = a
+  alike-applied (Adds d) = alike-with d
+  alike-applied (Withdraws d) = alike-without d
+  alike-applied Neither = a
 
   pub alike-reverted : (k : Change) → Alike (reverted k ds) (reverted k es)
-  alike-reverted (adds d) = alike-without d
-  alike-reverted (withdraws d) = alike-with d
-  alike-reverted neither = a
+  alike-reverted (Adds d) = alike-without d
+  alike-reverted (Withdraws d) = alike-with d
+  alike-reverted Neither = a
 
   pub alike-on : (o : Outline) → all_on_sheet o ds ≡ all_on_sheet o es
   alike-on o = iff_eq _ _
@@ -123,27 +127,27 @@ module _ (ds es : List Decision) (a : Alike ds es) where
 
   alike-starts : (o : Outline) (f : ℕ) → starts o ds f ≡ starts o es f
   unfolding starts other_chosen
-  alike-starts o f = fun_ext (λ v. ap₂ (λ (x y : Bool). not x && not y) (a (strike f v))
-      (ap (some_bit (settings o f)) (fun_ext (λ u. ap (λ (x : Bool). x && not (eqb u v)) (a (choice f u))))))
+  alike-starts o f = fun_ext (λ v. ap₂ (λ (x y : Bool). not x && not y) (a (Strike f v))
+      (ap (some_bit (settings o f)) (fun_ext (λ u. ap (λ (x : Bool). x && not (eqb u v)) (a (Choice f u))))))
 
   pub alike-start : (o : Outline) → start_set o ds ≡ start_set o es
   unfolding start_set
   alike-start o = ap (tabulate o.fields) (fun_ext (λ f. ap (keep_bits (settings o f)) (alike-starts o f)))
 
   alike-revertible : (o : Outline) (k : Change) → revertible o k ds ≡ revertible o k es
-  alike-revertible o (adds d) = ap (λ (x : Bool). on_sheet o d && x) (a d)
-  alike-revertible o (withdraws d) = ap (λ (x : Bool). on_sheet o d && not x) (a d)
-  alike-revertible o neither = refl
+  alike-revertible o (Adds d) = ap (λ (x : Bool). on_sheet o d && x) (a d)
+  alike-revertible o (Withdraws d) = ap (λ (x : Bool). on_sheet o d && not x) (a d)
+  alike-revertible o Neither = refl
 
   alike_again : (k : Change) → added_again k ds ≡ added_again k es
-  alike_again (adds d) = a d
-  alike_again (withdraws d) = refl
-  alike_again neither = refl
+  alike_again (Adds d) = a d
+  alike_again (Withdraws d) = refl
+  alike_again Neither = refl
 
   alike-unheld : (k : Change) → withdrawn_unheld k ds ≡ withdrawn_unheld k es
-  alike-unheld (adds d) = refl
-  alike-unheld (withdraws d) = ap not (a d)
-  alike-unheld neither = refl
+  alike-unheld (Adds d) = refl
+  alike-unheld (Withdraws d) = ap not (a d)
+  alike-unheld Neither = refl
 
 pub alike-reversible : (o : Outline) (past : List Event) (ds es : List Decision) → Alike ds es → reversible o past ds ≡ reversible o past es
 unfolding reversible

@@ -25,10 +25,11 @@ use Rattle.accepted.specs.Parts.{reach_of}
 use Rattle.accepted.specs.Facts.{facts}
 use Rattle.accepted.specs.Outline.{outline_of}
 use Rattle.network.specs.SheetProblem.{sheet_problem, sheet-triples}
+use Rattle.ledger.specs.declared.Decision.{Decision}
 use Rattle.ledger.specs.declared.Event.{Event}
 use Rattle.ledger.specs.declared.Call.{Call}
 use Rattle.ledger.specs.declared.Call.TheVariants.{Open, Show, Decide, Back, CoilOn}
-use Rattle.ledger.specs.Ledger.{Decision, Ledger, backed, step, settings, starts, start_set, offers_of, Given, no_selection}
+use Rattle.ledger.specs.Ledger.{Ledger, backed, step, settings, starts, start_set, offers_of, Given, no_selection}
 use Rattle.ledger.specs.Ledger.{number, after}
 use Rattle.ledger.specs.Laws.{Alike}
 use Rattle.ledger.proofs.Laws.{accepted-steps, refused-keeps, alike-start}

@@ -11,10 +11,13 @@ use Rattle.masks.specs.Tests.{never, eq_cases, and_l, and_r, and-by, or_l}
 use Rattle.sheet.specs.Sources.{numbers, of_bytes}
 use Rattle.accepted.specs.declared.outline.Outline.{Outline}
 use Rattle.accepted.specs.Outline.{outline_of}
+use Rattle.ledger.specs.declared.Decision.{Decision}
+use Rattle.ledger.specs.declared.Change.{Change}
+use Rattle.ledger.specs.declared.Change.TheVariants.{Adds, Withdraws, Neither}
 use Rattle.ledger.specs.declared.Event.{Event}
 use Rattle.ledger.specs.declared.Call.{Call}
 use Rattle.ledger.specs.declared.Call.TheVariants.{Open, Show, Decide, Back, CoilOn}
-use Rattle.ledger.specs.Ledger.{Decision, Change, adds, withdraws, neither, change_of, Ledger, same_decision, in_force, with, without}
+use Rattle.ledger.specs.Ledger.{change_of, Ledger, same_decision, in_force, with, without}
 use Rattle.ledger.specs.Ledger.{applied, reverted, opened, backed, step, Given, on_sheet, all_on_sheet, revertible, reversible}
 use Rattle.ledger.specs.Ledger.{no_selection, malformed, off_sheet, added_again, withdrawn_unheld, number, after}
 use Rattle.ledger.proofs.Laws.{accepted-steps, refused-keeps}
@@ -49,9 +52,9 @@ withdrawn_back d ds n e =
 -- a change that neither 10 nor 11 refuses, reversed
 pub applied_back : (k : Change) (ds : List Decision) → added_again k ds ≡ false → withdrawn_unheld k ds ≡ false
     → Alike (reverted k (applied k ds)) ds
-applied_back (adds d) ds a b = added-back d ds a
-applied_back (withdraws d) ds a b = withdrawn_back d ds (not_back _ b)
-applied_back neither ds a b = λ e. refl
+applied_back (Adds d) ds a b = added-back d ds a
+applied_back (Withdraws d) ds a b = withdrawn_back d ds (not_back _ b)
+applied_back Neither ds a b = λ e. refl
 
 gone : (d : Decision) (ds : List Decision) → in_force (without d ds) d ≡ false
 gone d ds = in_force-without d ds d ∙ ap (λ (b : Bool). in_force ds d && not b) (decision-self d) ∙ and-false (in_force ds d)
@@ -84,21 +87,21 @@ module _ (o : Outline) where
 
   -- a change on the sheet, made
   on-applied : (k : Change) (ds : List Decision) → off_sheet o k ≡ false → all_on_sheet o ds ≡ true → all_on_sheet o (applied k ds) ≡ true
-  on-applied (adds d) ds n a = on-with d ds (not_back _ n) a
-  on-applied (withdraws d) ds n a = on-without d ds a
-  on-applied neither ds n a = a
+  on-applied (Adds d) ds n a = on-with d ds (not_back _ n) a
+  on-applied (Withdraws d) ds n a = on-without d ds a
+  on-applied Neither ds n a = a
 
   applied-revertible : (k : Change) (ds : List Decision) → off_sheet o k ≡ false → revertible o k (applied k ds) ≡ true
-  applied-revertible (adds d) ds n = and-by _ _ (not_back (on_sheet o d) n) (here d ds)
-  applied-revertible (withdraws d) ds n = and-by _ _ (not_back (on_sheet o d) n) (ap not (gone d ds))
-  applied-revertible neither ds n = sym n
+  applied-revertible (Adds d) ds n = and-by _ _ (not_back (on_sheet o d) n) (here d ds)
+  applied-revertible (Withdraws d) ds n = and-by _ _ (not_back (on_sheet o d) n) (ap not (gone d ds))
+  applied-revertible Neither ds n = sym n
 
   -- a change that can be reversed, reversed
   on-reverted : (k : Change) (ds : List Decision) → revertible o k ds ≡ true → all_on_sheet o ds ≡ true
       → all_on_sheet o (reverted k ds) ≡ true
-  on-reverted (adds d) ds r a = on-without d ds a
-  on-reverted (withdraws d) ds r a = on-with d ds (and_l _ _ r) a
-  on-reverted neither ds r a = a
+  on-reverted (Adds d) ds r a = on-without d ds a
+  on-reverted (Withdraws d) ds r a = on-with d ds (and_l _ _ r) a
+  on-reverted Neither ds r a = a
 
   decided-formed : (e : Event) (l : Ledger) → malformed o l ≡ false → off_sheet o (change_of e) ≡ false
       → added_again (change_of e) l.decisions ≡ false → withdrawn_unheld (change_of e) l.decisions ≡ false

@@ -6,7 +6,6 @@ use Rattle.std.proofs.Math.Bool.{true, false, not, and-false}
 use native.Mathlib.Omega.{arith}
 use Rattle.std.proofs.Math.Dec.{eqb}
 use borrow.Author.Tests.{eqb-true, eq-eqb, ne_eqb, lt-ltb}
-use Rattle.limits.specs.Refusals.{UNKNOWN, NO_ORDER}
 use Rattle.masks.specs.Tests.{never, not_so, and_l, and_r, and-by, or_l, or_r, or_at, some_below, some_below-at}
 use Rattle.masks.specs.Tests.{some_below-by}
 use Rattle.masks.specs.Bits.{bit}
@@ -20,16 +19,18 @@ use Rattle.consistency.specs.Neighbourhood.{neighbourhood}
 use Rattle.sheet.specs.Sources.{Accepted, numbers, of_bytes}
 use Rattle.accepted.specs.declared.outline.Outline.{Outline}
 use Rattle.accepted.specs.Lists.{get_d_tabulate}
-use Rattle.accepted.specs.Parts.{fields_of, count_of, reach_of, rules_of, first_of, second_of, rule_allows, triples_of, triple_first}
+use Rattle.accepted.specs.Parts.{fields_of, count_of, reach_of, rules_of, rule_allows, triples_of, triple_first}
 use Rattle.accepted.specs.Parts.{triple_second}
-use Rattle.accepted.specs.Parts.{triple_third, triple_allows}
+use Rattle.accepted.specs.Parts.{triple_third}
 use Rattle.accepted.specs.Facts.{facts}
 use Rattle.accepted.specs.Outline.{outline_of, full-has}
 use Rattle.network.specs.SheetProblem.{runs, runs-at, pairs, joins, allows_pair, sheet_triple, sheet_problem, sheet-triples}
+use Rattle.ledger.specs.declared.Decision.{Decision}
+use Rattle.ledger.specs.declared.Decision.TheVariants.{Choice, Strike}
 use Rattle.ledger.specs.declared.Event.{Event}
 use Rattle.ledger.specs.declared.Call.{Call}
 use Rattle.ledger.specs.declared.Call.TheVariants.{Open, Show, Decide, Back, CoilOn}
-use Rattle.ledger.specs.Ledger.{Decision, choice, strike, change_of, Ledger, same_decision, in_force, without, backed, step, settings}
+use Rattle.ledger.specs.Ledger.{change_of, Ledger, same_decision, in_force, without, backed, step, settings}
 use Rattle.ledger.specs.Ledger.{other_chosen, starts, start_set, offers_of, wiped, Given, Cause, first, space_short, space_causes}
 use Rattle.ledger.specs.Ledger.{sheet_causes, session_causes, engine_causes, place_causes, order_causes, step_causes, offers_causes, judged}
 use Rattle.ledger.specs.Ledger.{causes, number}
@@ -48,30 +49,30 @@ not_back false e = refl
 
 module _ (o : Outline) (ds : List Decision) (f : ℕ) where
   other_at : (v : ℕ) → other_chosen o ds f v ≡ true
-      → (u : ℕ) × (has o.full f u ≡ true) × (in_force ds (choice f u) ≡ true) × (eqb u v ≡ false)
+      → (u : ℕ) × (has o.full f u ≡ true) × (in_force ds (Choice f u) ≡ true) × (eqb u v ≡ false)
   unfolding other_chosen has
   other_at v e =
-      let x = some_bit-at (settings o f) (λ u. in_force ds (choice f u) && not (eqb u v)) e in
-      (x.0, x.1, and_l _ _ x.2, not_back _ (and_r (in_force ds (choice f x.0)) _ x.2))
+      let x = some_bit-at (settings o f) (λ u. in_force ds (Choice f u) && not (eqb u v)) e in
+      (x.0, x.1, and_l _ _ x.2, not_back _ (and_r (in_force ds (Choice f x.0)) _ x.2))
 
-  other-by : (v u : ℕ) → has o.full f u ≡ true → in_force ds (choice f u) ≡ true → eqb u v ≡ false → other_chosen o ds f v ≡ true
+  other-by : (v u : ℕ) → has o.full f u ≡ true → in_force ds (Choice f u) ≡ true → eqb u v ≡ false → other_chosen o ds f v ≡ true
   unfolding other_chosen has
-  other-by v u h c n = some_bit-by (settings o f) (λ u. in_force ds (choice f u) && not (eqb u v)) u h (and-by _ _ c (ap not n))
+  other-by v u h c n = some_bit-by (settings o f) (λ u. in_force ds (Choice f u) && not (eqb u v)) u h (and-by _ _ c (ap not n))
 
   -- no choice: all that are not struck
-  pub start-free : ((u : ℕ) → has o.full f u ≡ true → in_force ds (choice f u) ≡ false)
-      → (v : ℕ) → starts o ds f v ≡ not (in_force ds (strike f v))
+  pub start-free : ((u : ℕ) → has o.full f u ≡ true → in_force ds (Choice f u) ≡ false)
+      → (v : ℕ) → starts o ds f v ≡ not (in_force ds (Strike f v))
   unfolding starts
   start-free n v =
       let none = not_so (other_chosen o ds f v) (λ e. let x = other_at v e in never x.2 (n x.0 x.1)) in
-      rw none (and-true (not (in_force ds (strike f v))))
+      rw none (and-true (not (in_force ds (Strike f v))))
 
   -- one choice: only the chosen one, if it is not struck
-  pub start-one : (w : ℕ) → has o.full f w ≡ true → in_force ds (choice f w) ≡ true
-      → ((u : ℕ) → has o.full f u ≡ true → in_force ds (choice f u) ≡ true → u ≡ w)
-      → (v : ℕ) → starts o ds f v ≡ (not (in_force ds (strike f v)) && eqb w v)
+  pub start-one : (w : ℕ) → has o.full f w ≡ true → in_force ds (Choice f w) ≡ true
+      → ((u : ℕ) → has o.full f u ≡ true → in_force ds (Choice f u) ≡ true → u ≡ w)
+      → (v : ℕ) → starts o ds f v ≡ (not (in_force ds (Strike f v)) && eqb w v)
   unfolding starts
-  start-one w h c only v = ap (λ (b : Bool). not (in_force ds (strike f v)) && b) (go (eqb w v) refl)
+  start-one w h c only v = ap (λ (b : Bool). not (in_force ds (Strike f v)) && b) (go (eqb w v) refl)
     where
       go : (b : Bool) → eqb w v ≡ b → not (other_chosen o ds f v) ≡ b
       go true e = ap not (not_so (other_chosen o ds f v) (λ s.
@@ -80,10 +81,10 @@ module _ (o : Outline) (ds : List Decision) (f : ℕ) where
       go false e = ap not (other-by v w h c e)
 
   -- two or more: none
-  pub start_none : (u w : ℕ) → has o.full f u ≡ true → has o.full f w ≡ true → (u ≡ w → ⊥) → in_force ds (choice f u) ≡ true
-      → in_force ds (choice f w) ≡ true → (v : ℕ) → starts o ds f v ≡ false
+  pub start_none : (u w : ℕ) → has o.full f u ≡ true → has o.full f w ≡ true → (u ≡ w → ⊥) → in_force ds (Choice f u) ≡ true
+      → in_force ds (Choice f w) ≡ true → (v : ℕ) → starts o ds f v ≡ false
   unfolding starts
-  start_none u w h l n c d v = rw (some (eqb u v) refl) (and-false (not (in_force ds (strike f v))))
+  start_none u w h l n c d v = rw (some (eqb u v) refl) (and-false (not (in_force ds (Strike f v))))
     where
       some : (b : Bool) → eqb u v ≡ b → other_chosen o ds f v ≡ true
       some true e = other-by v w l d (ne_eqb w v (λ q. n (eqb-true u v e ∙ sym q)))

@@ -22,10 +22,11 @@ use Rattle.accepted.specs.Parts.{field_start, rule_start}
 use Rattle.accepted.specs.Outline.{outline_of}
 use Rattle.accepted.specs.Cases.{D}
 use Rattle.network.specs.SheetProblem.{runs, pairs, sheet_problem}
+use Rattle.ledger.specs.declared.Decision.TheVariants.{Choice, Strike}
 use Rattle.ledger.specs.declared.Event.{Event}
 use Rattle.ledger.specs.declared.Call.TheVariants.{Open, Show, Back}
 use Rattle.ledger.specs.Occurrences.{occurrences}
-use Rattle.ledger.specs.Ledger.{choice, strike, CHOOSE, STRIKE, WITHDRAW_CHOICE, WITHDRAW_STRIKE, change_by, decides, Ledger}
+use Rattle.ledger.specs.Ledger.{CHOOSE, STRIKE, WITHDRAW_CHOICE, WITHDRAW_STRIKE, change_by, decides, Ledger}
 use Rattle.ledger.specs.Ledger.{same_decision, in_force, without, opened, backed, step, other_chosen, starts, start_set, offers_of, wiped}
 use Rattle.ledger.specs.Ledger.{Given, space_short, on_sheet, all_on_sheet, reversible, no_selection, malformed, no_engine, is_order}
 use Rattle.ledger.specs.Ledger.{first, judged, causes, number}
@@ -68,14 +69,14 @@ full = record { decisions = []; events = past_of 32; selected = 3 }
 -- a strike in force, and 64 events
 abbrev struck : Ledger
 struck = record {
-  decisions = strike 0 0 ∷ [];
+  decisions = Strike 0 0 ∷ [];
   events = happened STRIKE ∷ happened WITHDRAW_STRIKE ∷ happened STRIKE ∷ past_of 30;
   selected = 3;
 }
 
 -- a decision that is not on the sheet; an addition that is not in force; events of no kind
 abbrev off : Ledger
-off = record { decisions = choice 2 0 ∷ []; events = []; selected = 3 }
+off = record { decisions = Choice 2 0 ∷ []; events = []; selected = 3 }
 
 abbrev unheld : Ledger
 unheld = record { decisions = []; events = happened CHOOSE ∷ []; selected = 3 }
@@ -89,7 +90,7 @@ lent offers rows memory = record { sheet = D; engine = 1; order = rising; offers
 
 -- a strike in force, and an odd number of events: 63 or 65
 abbrev odd : ℕ → Ledger
-odd n = record { decisions = strike 0 0 ∷ []; events = happened STRIKE ∷ past_of n; selected = 3 }
+odd n = record { decisions = Strike 0 0 ∷ []; events = happened STRIKE ∷ past_of n; selected = 3 }
 
 -- the ends of the limits of a call, spelled: 24, 13,248 and 13,824 words are enough and one less is not; event 64 is taken and event 65 is
 -- not; 65 events are too many

@@ -1,7 +1,12 @@
 -- Lists of causes: the first that applies in one list, and in two that are joined. Assumes nothing.
 use Rattle.std.specs.Prelude.{◌≡◌, refl, Bool, true, List, [], ◌∷◌, ◌++◌, ℕ, eqb}
-use Rattle.std.proofs.Common.{sym, ◌∙◌, ⊎_elim, eq-eqb, ne_eqb}
+use Rattle.std.proofs.Common.{sym, ◌∙◌, ⊎_elim, eq-eqb, ne_eqb, arith}
 use Rattle.std.proofs.Math.Bool.{false}
+use Rattle.limits.specs.declared.refusals.Refusal.{Refusal}
+use Rattle.limits.specs.declared.refusals.Refusal.TheVariants.{EndsInside, IllFormed, OutOfRange, OutOfOrder, Surplus, TooShort}
+use Rattle.limits.specs.declared.refusals.Refusal.TheVariants.{Unknown, NoOrder, AddedAgain, NotInForce, NoRoom, NothingPast}
+use Rattle.limits.specs.declared.refusals.Refusal.TheVariants.{WipedOut, Malformed, NoSelection, Retired}
+use Rattle.limits.specs.Refusals.{number}
 use Rattle.masks.specs.Tests.{eq_cases}
 use Rattle.masks.specs.Pick.{pick, pick_true, pick-false}
 use Rattle.ledger.specs.Ledger.{Cause, because, first}
@@ -100,3 +105,23 @@ first_skip (c ∷ cs) ds m = go c.applies (first_skip cs ds) m
         → pick b c.number (first (cs ++ ds)) ≡ first ds
     go true ih m = absurd (m.0 (unfold pick in refl))
     go false ih m = unfold pick in ih m.1
+
+-- ---- the number of a refusal is not 0
+
+pub number-some : (r : Refusal) → number r ≡ 0 → ⊥
+number-some EndsInside e = omega arith
+number-some IllFormed e = omega arith
+number-some OutOfRange e = omega arith
+number-some OutOfOrder e = omega arith
+number-some Surplus e = omega arith
+number-some TooShort e = omega arith
+number-some Unknown e = omega arith
+number-some NoOrder e = omega arith
+number-some AddedAgain e = omega arith
+number-some NotInForce e = omega arith
+number-some NoRoom e = omega arith
+number-some NothingPast e = omega arith
+number-some WipedOut e = omega arith
+number-some Malformed e = omega arith
+number-some NoSelection e = omega arith
+number-some Retired e = omega arith

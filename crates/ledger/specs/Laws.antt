@@ -1,6 +1,7 @@
 -- Decisions and ledgers that a call cannot tell apart. Assumes nothing.
 use Rattle.std.specs.Prelude.{◌≡◌, List}
-use Rattle.ledger.specs.Ledger.{Decision, in_force, Ledger}
+use Rattle.ledger.specs.declared.Decision.{Decision}
+use Rattle.ledger.specs.Ledger.{in_force, Ledger}
 
 -- the same decisions in force
 abbrev pub Alike : List Decision → List Decision → Type 0

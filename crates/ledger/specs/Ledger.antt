@@ -18,22 +18,14 @@ use Rattle.accepted.specs.Outline.{outline_of}
 use Rattle.network.specs.SheetProblem.{sheet_problem}
 use Rattle.ledger.specs.Occurrences.{occurrences}
 use Rattle.ledger.specs.declared.Event.{Event}
+use Rattle.ledger.specs.declared.Decision.{Decision}
+use Rattle.ledger.specs.declared.Decision.TheVariants.{Choice, Strike}
+use Rattle.ledger.specs.declared.Change.{Change}
+use Rattle.ledger.specs.declared.Change.TheVariants.{Adds, Withdraws, Neither}
 use Rattle.ledger.specs.declared.Call.{Call}
 use Rattle.ledger.specs.declared.Call.TheVariants.{Open, Show, Decide, Back, CoilOn}
 
--- ---- decisions and events
-
--- A decision: the choice or the strike of a setting, by its field and its position.
-pub data Decision : Type 0 where
-  choice : ℕ → ℕ → Decision
-  strike : ℕ → ℕ → Decision
-
--- What an event does to the decisions. An event of none of the four kinds does nothing; no step of the ledger adds one, but a forged
--- session may hold one.
-pub data Change : Type 0 where
-  adds : Decision → Change
-  withdraws : Decision → Change
-  neither : Change
+-- ---- events: what they do to the decisions
 
 -- the kinds of events: choose 1, strike 2, withdraw choice 3, withdraw strike 4
 abbrev pub CHOOSE : ℕ
@@ -48,13 +40,14 @@ WITHDRAW_CHOICE = 3
 abbrev pub WITHDRAW_STRIKE : ℕ
 WITHDRAW_STRIKE = 4
 
+-- An event of none of the four kinds does nothing; no step of the ledger adds one, but a forged session may hold one.
 unfoldable pub change_by : (kind f v : ℕ) → Change
 change_by kind f v =
-    pick (eqb kind CHOOSE) (adds (choice f v))
-    (pick (eqb kind STRIKE) (adds (strike f v))
-    (pick (eqb kind WITHDRAW_CHOICE) (withdraws (choice f v))
-    (pick (eqb kind WITHDRAW_STRIKE) (withdraws (strike f v))
-    neither)))
+    pick (eqb kind CHOOSE) (Adds (Choice f v))
+    (pick (eqb kind STRIKE) (Adds (Strike f v))
+    (pick (eqb kind WITHDRAW_CHOICE) (Withdraws (Choice f v))
+    (pick (eqb kind WITHDRAW_STRIKE) (Withdraws (Strike f v))
+    Neither)))
 
 abbrev pub change_of : Event → Change
 change_of e = change_by e.kind e.field e.position
@@ -72,10 +65,10 @@ pub record Ledger : Type 0 where
   pub selected : ℕ
 
 unfoldable pub same_decision : Decision → Decision → Bool
-same_decision (choice f v) (choice g u) = eqb f g && eqb v u
-same_decision (choice f v) (strike g u) = false
-same_decision (strike f v) (choice g u) = false
-same_decision (strike f v) (strike g u) = eqb f g && eqb v u
+same_decision (Choice f v) (Choice g u) = eqb f g && eqb v u
+same_decision (Choice f v) (Strike g u) = false
+same_decision (Strike f v) (Choice g u) = false
+same_decision (Strike f v) (Strike g u) = eqb f g && eqb v u
 
 unfoldable pub in_force : List Decision → Decision → Bool
 in_force [] d = false
@@ -92,15 +85,15 @@ without d (e ∷ ds) = pick (same_decision e d) (without d ds) (e ∷ without d 
 
 -- the decisions after a change
 abbrev pub applied : Change → List Decision → List Decision
-applied (adds d) ds = with d ds
-applied (withdraws d) ds = without d ds
-applied neither ds = ds
+applied (Adds d) ds = with d ds
+applied (Withdraws d) ds = without d ds
+applied Neither ds = ds
 
 -- and before it: an added decision goes, a withdrawn one returns
 abbrev pub reverted : Change → List Decision → List Decision
-reverted (adds d) ds = without d ds
-reverted (withdraws d) ds = with d ds
-reverted neither ds = ds
+reverted (Adds d) ds = without d ds
+reverted (Withdraws d) ds = with d ds
+reverted Neither ds = ds
 
 -- no decisions, no events, and a mask of selected fields
 abbrev pub opened : ℕ → Ledger
@@ -127,12 +120,12 @@ settings o f = get_or o.full f 0
 
 -- a position of field f other than v is chosen
 unfoldable pub other_chosen : Outline → List Decision → ℕ → ℕ → Bool
-other_chosen o ds f v = some_bit (settings o f) (λ u. in_force ds (choice f u) && not (eqb u v))
+other_chosen o ds f v = some_bit (settings o f) (λ u. in_force ds (Choice f u) && not (eqb u v))
 
 -- Position v of field f stays in the start set where it is not struck and no other one is chosen: with no choice every position that is not
 -- struck, with one choice only the chosen one if not struck, with two or more none.
 unfoldable pub starts : Outline → List Decision → ℕ → ℕ → Bool
-starts o ds f v = not (in_force ds (strike f v)) && not (other_chosen o ds f v)
+starts o ds f v = not (in_force ds (Strike f v)) && not (other_chosen o ds f v)
 
 -- for each field a mask
 unfoldable pub start_set : Outline → List Decision → List ℕ
@@ -199,8 +192,8 @@ selection_causes o selected = because (no_selection o selected) NO_SELECTION ∷
 -- ---- the session: 15, and at open 18 in its place
 
 unfoldable pub on_sheet : Outline → Decision → Bool
-on_sheet o (choice f v) = has o.full f v
-on_sheet o (strike f v) = has o.full f v
+on_sheet o (Choice f v) = has o.full f v
+on_sheet o (Strike f v) = has o.full f v
 
 unfoldable pub all_on_sheet : Outline → List Decision → Bool
 all_on_sheet o [] = true
@@ -208,9 +201,9 @@ all_on_sheet o (d ∷ ds) = on_sheet o d && all_on_sheet o ds
 
 -- a change that can be reversed: of a decision on the sheet, and an addition is in force, a withdrawal is not
 abbrev pub revertible : Outline → Change → List Decision → Bool
-revertible o (adds d) ds = on_sheet o d && in_force ds d
-revertible o (withdraws d) ds = on_sheet o d && not (in_force ds d)
-revertible o neither ds = false
+revertible o (Adds d) ds = on_sheet o d && in_force ds d
+revertible o (Withdraws d) ds = on_sheet o d && not (in_force ds d)
+revertible o Neither ds = false
 
 -- the events can be reversed from the latest on
 unfoldable pub reversible : Outline → List Event → List Decision → Bool
@@ -244,9 +237,9 @@ engine_causes engine = because (no_engine engine) UNKNOWN ∷ []
 -- ---- the decision that a call names: 7, also where its kind is none of the four
 
 abbrev pub off_sheet : Outline → Change → Bool
-off_sheet o (adds d) = not (on_sheet o d)
-off_sheet o (withdraws d) = not (on_sheet o d)
-off_sheet o neither = true
+off_sheet o (Adds d) = not (on_sheet o d)
+off_sheet o (Withdraws d) = not (on_sheet o d)
+off_sheet o Neither = true
 
 abbrev pub setting_causes : Outline → Event → List Cause
 setting_causes o e = because (off_sheet o (change_of e)) UNKNOWN ∷ []
@@ -270,14 +263,14 @@ order_causes o order = because (not (is_order o.fields order)) NO_ORDER ∷ []
 -- ---- the step: 10, 11 and 12 for a call that changes the decisions, 13 for back
 
 abbrev pub added_again : Change → List Decision → Bool
-added_again (adds d) ds = in_force ds d
-added_again (withdraws d) ds = false
-added_again neither ds = false
+added_again (Adds d) ds = in_force ds d
+added_again (Withdraws d) ds = false
+added_again Neither ds = false
 
 abbrev pub withdrawn_unheld : Change → List Decision → Bool
-withdrawn_unheld (adds d) ds = false
-withdrawn_unheld (withdraws d) ds = not (in_force ds d)
-withdrawn_unheld neither ds = false
+withdrawn_unheld (Adds d) ds = false
+withdrawn_unheld (Withdraws d) ds = not (in_force ds d)
+withdrawn_unheld Neither ds = false
 
 abbrev pub change_causes : Event → Ledger → List Cause
 change_causes e l =

@@ -1,5 +1,9 @@
 -- The numbers of the refusals (01's table, and 02), under the names that they have in code and header. Assumes nothing.
-use Rattle.std.specs.Prelude.{ℕ}
+use Rattle.std.specs.Prelude.{Bool, true, false, ℕ, Result, Ok, Err}
+use Rattle.limits.specs.declared.refusals.Refusal.{Refusal}
+use Rattle.limits.specs.declared.refusals.Refusal.TheVariants.{EndsInside, IllFormed, OutOfRange, OutOfOrder, Surplus, TooShort}
+use Rattle.limits.specs.declared.refusals.Refusal.TheVariants.{Unknown, NoOrder, AddedAgain, NotInForce, NoRoom, NothingPast}
+use Rattle.limits.specs.declared.refusals.Refusal.TheVariants.{WipedOut, Malformed, NoSelection, Retired}
 
 -- bytes or numbers end inside the sheet
 abbrev pub ENDS_INSIDE : ℕ
@@ -68,3 +72,37 @@ NO_SELECTION = 18
 -- the writer met the retired kind (02, request 9)
 abbrev pub RETIRED : ℕ
 RETIRED = 20
+
+-- the number of a refusal
+abbrev pub number : Refusal → ℕ
+number EndsInside = ENDS_INSIDE
+number IllFormed = ILL_FORMED
+number OutOfRange = OUT_OF_RANGE
+number OutOfOrder = OUT_OF_ORDER
+number Surplus = SURPLUS
+number TooShort = TOO_SHORT
+number Unknown = UNKNOWN
+number NoOrder = NO_ORDER
+number AddedAgain = ADDED_AGAIN
+number NotInForce = NOT_IN_FORCE
+number NoRoom = NO_ROOM
+number NothingPast = NOTHING_PAST
+number WipedOut = WIPED_OUT
+number Malformed = MALFORMED
+number NoSelection = NO_SELECTION
+number Retired = RETIRED
+
+-- the number of a call: 0 where it is accepted
+abbrev pub number_of : {A : Type 0} → Result A Refusal → ℕ
+number_of (Ok x) = 0
+number_of (Err refusal) = number refusal
+
+-- whether a set was wiped out: a field of it has nothing left
+abbrev pub is_wiped : {A E : Type 0} → Result A E → Bool
+is_wiped (Ok x) = false
+is_wiped (Err e) = true
+
+-- the fields that lost settings, where it was not
+abbrev pub fields_in : {E : Type 0} → Result ℕ E → ℕ
+fields_in (Ok x) = x
+fields_in (Err e) = 0

@@ -1,7 +1,8 @@
 // The limits of 01 and 02, and the numbers of the refusals, each named once. `specs/` has the same names.
 #![tactic(auto)]
 
-pub mod refusals; // refusals.rt: the numbers of the refusals
+pub mod engine; // engine.rt: the engines by their numbers
+pub mod refusals; // refusals.rt: why a call is refused
 
 // The most fields of a sheet, and the length of an array with a word for each of them.
 pub const MOST_FIELDS: u32 = 24;

@@ -1,4 +1,67 @@
-// The numbers of the refusals (01's table, and 02). `specs/Refusals.antt` has the same names, and that of 8, which no call gives.
+// Why a call is refused (01's table, and 02). `specs/Refusals.antt` has the number of each, and that of 8, which no call gives.
+ghost use Rattle.std.specs.Prelude.{◌≡◌};
+ghost use Rattle.limits.specs.Refusals.{number};
+
+#[derive(Clone, Copy, Debug, PartialEq, Eq)]
+pub enum Refusal {
+    EndsInside,
+    IllFormed,
+    OutOfRange,
+    OutOfOrder,
+    Surplus,
+    TooShort,
+    Unknown,
+    NoOrder,
+    AddedAgain,
+    NotInForce,
+    NoRoom,
+    NothingPast,
+    WipedOut,
+    Malformed,
+    NoSelection,
+    Retired,
+}
+
+// A field of a set has nothing left.
+#[derive(Clone, Copy, Debug, PartialEq, Eq)]
+pub struct WipedOut;
+
+impl From<WipedOut> for Refusal {
+    ghost use Rattle.limits.specs.declared.refusals.Refusal.TheVariants.{WipedOut};
+
+    ghost from_gives = { λ _ refusal. refusal ≡ WipedOut };
+
+    fn from(_wiped: WipedOut) -> Refusal {
+        Self::WipedOut
+    }
+}
+
+impl Refusal {
+    // The number that a call answers.
+    pub fn number(self) -> u32
+        ensures { result ≡ number self }
+    {
+        match self {
+            Refusal::EndsInside => 1,
+            Refusal::IllFormed => 2,
+            Refusal::OutOfRange => 3,
+            Refusal::OutOfOrder => 4,
+            Refusal::Surplus => 5,
+            Refusal::TooShort => 6,
+            Refusal::Unknown => 7,
+            Refusal::NoOrder => 9,
+            Refusal::AddedAgain => 10,
+            Refusal::NotInForce => 11,
+            Refusal::NoRoom => 12,
+            Refusal::NothingPast => 13,
+            Refusal::WipedOut => 14,
+            Refusal::Malformed => 15,
+            Refusal::NoSelection => 18,
+            Refusal::Retired => 20,
+        }
+    }
+}
+
 pub const ENDS_INSIDE: u32 = 1;
 
 pub const ILL_FORMED: u32 = 2;

@@ -2,11 +2,11 @@
 use Rattle.std.specs.Prelude.{◌≡◌, refl, ◌⊎◌, Bool, ◌&&◌, List, ℕ, ◌+◌, ◌*◌, ◌≤◌, ◌<◌, ltb, length, get_or, set}
 use Rattle.std.proofs.Common.{sym, ap, ◌∙◌, inl, inr, ⊎_elim, eq-or-lt_of_le, arith, length-set, get_or-set_same, get_or-set_other, lt-ltb}
 use Rattle.std.proofs.Common.{le-ltb, ltb-true, ltb-false}
-use Rattle.limits.specs.Limits.{most_settings}
+use Rattle.limits.specs.Limits.{most_fields, most_settings}
 use Rattle.masks.specs.Tests.{bool_cases}
 use Rattle.masks.specs.Masks.{mask_of}
 use Rattle.masks.proofs.Loops.{mask-false}
-use Rattle.accepted.specs.Parts.{fields_of, field_start, count_of, setting_of, triple_first, triple_second, triple_third, triple_number}
+use Rattle.accepted.specs.Parts.{fields_of, count_of, setting_of, triple_first, triple_second, triple_third, triple_number}
 use Rattle.accepted.specs.Parts.{triple_allows, FieldAt, TripleAt}
 use Rattle.accepted.specs.Kinds.{even_draft}
 use Rattle.accepted.specs.Facts.{Facts, facts}
@@ -110,29 +110,35 @@ module _ (xs : List ℕ) (t : ℕ) where
 pub field-few : (xs : List ℕ) (f place : ℕ) → FieldAt xs f place → count_of xs f ≤ most_settings
 field-few xs f place g = (facts xs g.field.accepted).count-few f g.field.within
 
-module _ (xs : List ℕ) (t place i j k : ℕ) (g : TripleAt xs t place) (ei : i ≡ triple_first xs t) (ej : j ≡ triple_second xs t)
-    (ek : k ≡ triple_third xs t) where
+-- triple rule t at its place, and its fields i, j and k
+pub record TripleFields (xs : List ℕ) (t place i j k : ℕ) : Type 0 where
+  pub triple : TripleAt xs t place
+  pub first : i ≡ triple_first xs t
+  pub second : j ≡ triple_second xs t
+  pub third : k ≡ triple_third xs t
+
+module _ (xs : List ℕ) (t place i j k : ℕ) (g : TripleFields xs t place i j k) where
   fs : Facts xs
-  fs = facts xs g.accepted
+  fs = facts xs g.triple.accepted
 
   pub three_in : (i < fields_of xs) × (j < fields_of xs) × (k < fields_of xs)
   three_in =
-      let x = fs.triple-apart t g.within in
-      let y = fs.triple-above t g.within in
-      let z = fs.triple-within t g.within in
+      let a = g.first in
+      let b = g.second in
+      let d = g.third in
+      let x = fs.triple-apart t g.triple.within in
+      let y = fs.triple-above t g.triple.within in
+      let z = fs.triple-within t g.triple.within in
       (omega arith, omega arith, omega arith)
-
-  pub three-le : (i ≤ fields_of xs) × (j ≤ fields_of xs) × (k ≤ fields_of xs)
-  three-le = let x = three_in in let a = x.0 in let b = x.1 in let d = x.2 in (omega arith, omega arith, omega arith)
 
   pub counts-low : (count_of xs i ≤ most_settings) × (count_of xs j ≤ most_settings) × (count_of xs k ≤ most_settings)
   counts-low = let x = three_in in (fs.count-few i x.0, fs.count-few j x.1, fs.count-few k x.2)
 
-  pub at_first : (at : ℕ) → at ≡ field_start xs i → FieldAt xs i at
-  at_first at e = record { field = record { accepted = g.accepted; within = three_in.0 }; at = e }
-
-  pub at_second : (at : ℕ) → at ≡ field_start xs j → FieldAt xs j at
-  at_second at e = record { field = record { accepted = g.accepted; within = three_in.1 }; at = e }
-
-  pub at-third : (at : ℕ) → at ≡ field_start xs k → FieldAt xs k at
-  at-third at e = record { field = record { accepted = g.accepted; within = three_in.2 }; at = e }
+  pub fields-small : (i < most_fields) × (j < most_fields) × (k < most_fields)
+  fields-small =
+      let x = three_in in
+      let a = x.0 in
+      let b = x.1 in
+      let d = x.2 in
+      let n = fs.fields-few in
+      (omega arith, omega arith, omega arith)

@@ -12,7 +12,7 @@ use Rattle.masks.proofs.Bits.{bit_of-zero}
 use Rattle.masks.proofs.Words.{bit-or, bit-one}
 use Rattle.masks.specs.Sets.{get_d_zeros}
 use Rattle.sheet.specs.Sources.{Accepted}
-use Rattle.accepted.specs.Parts.{rules_of, rule_start, first_of, second_of, RuleAt}
+use Rattle.accepted.specs.Parts.{rules_of, rule_start, first_of, second_of}
 use Rattle.accepted.specs.Facts.{Facts, facts}
 use Rattle.accepted.specs.Order.{no_pair-twice}
 use Rattle.network.specs.Slots.{slot_bound, slot_unique}
@@ -185,28 +185,13 @@ module _ (xs rows0 : List ℕ) where
   }
 
   module _ (r place : ℕ) (joined rows : List ℕ) (p : Filled xs rows0 r place joined rows) (h : r < rules_of xs) where
-    pub rule-at : RuleAt xs r place
-    rule-at = record { accepted = p.accepted; within = h; at = p.at }
-
-    -- its fields have a place among the joined fields
-    pub joined-room : (i j : ℕ) → i ≡ first_of xs r → j ≡ second_of xs r
-        → (i < most_fields) × (j < most_fields) × (length joined ≡ most_fields)
-    joined-room i j a b =
-        let m = rule_bounds xs p.accepted r h in
-        let k = m.0 in
-        let l = m.1 in
-        (omega arith, omega arith, p.holds.marks)
-
-    pub filled_next : (i j x y next : ℕ) (rows' : List ℕ) → i ≡ first_of xs r → j ≡ second_of xs r → x ≡ 2 ^ j → y ≡ 2 ^ i
-        → next ≡ rule_start xs (r + 1)
-        → RuleStored xs r rows rows'
-        → Filled xs rows0 (r + 1) next
-        (set (set joined i (bit_or (get_or joined i 0) x)) j (bit_or (get_or (set joined i (bit_or (get_or joined i 0) x)) j 0) y)) rows'
-    filled_next i j x y next rows' a b d e k s = record {
+    pub filled_next : (i j next : ℕ) (joined' rows' : List ℕ) → i ≡ first_of xs r → j ≡ second_of xs r → joined' ≡ joined_with joined i j
+        → next ≡ rule_start xs (r + 1) → RuleStored xs r rows rows' → Filled xs rows0 (r + 1) next joined' rows'
+    filled_next i j next joined' rows' a b e k s = record {
       accepted = p.accepted;
       within = omega arith;
       at = k;
       room = let z = s.sized in let l = p.room in omega arith;
       sized = s.sized ∙ p.sized;
-      holds = rw (d, e, a, b) (holds-next xs p.accepted r h joined _ _ p.holds _ _ s.forward s.turned);
+      holds = rw (e, a, b) (holds-next xs p.accepted r h joined _ _ p.holds _ _ s.forward s.turned);
     }

@@ -9,7 +9,7 @@ pub mod RuleFields
 pub mod RuleRows
 pub mod Filling
 pub mod Hoods
-pub mod TripleLoop
+pub mod TripleBounds
 pub mod Linking
 pub mod Drafts
 pub mod Blocks

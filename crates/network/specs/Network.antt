@@ -10,6 +10,7 @@ use Rattle.accepted.specs.Parts.{fields_of, reach_of, rules_of, triples_of}
 use Rattle.accepted.specs.Outline.{outline_of}
 use Rattle.accepted.specs.Facts.{facts}
 use Rattle.network.specs.declared.build.Network.{Network}
+use Rattle.network.specs.declared.tables.Tables.{Tables}
 use Rattle.network.specs.Tables.{rule_problem, Wired}
 use Rattle.network.specs.TripleTable.{triple_count, triple_in, sheet_in, problem_of, TripleTable}
 use Rattle.network.specs.SheetProblem.{sheet_triple, sheet_problem}
@@ -20,6 +21,25 @@ use Rattle.network.specs.Linking.{LinksTo, links_of, links-below}
 -- the problem that a network and its tables hold
 abbrev pub problem_in : Network → List ℕ → List ℕ → List ℕ → Problem
 problem_in net forward turned T = problem_of net.fields net.joined forward turned T
+
+-- so where they are lent, and its rules over two fields alone
+abbrev pub problem : Tables → Problem
+problem t = problem_of t.network.now.fields t.network.now.joined t.forward.now t.turned.now t.triples.now
+
+abbrev pub rules : Tables → Problem
+rules t = rule_problem t.network.now.fields t.network.now.joined t.forward.now t.turned.now
+
+-- the neighbourhoods of its fields
+abbrev pub hoods : Tables → List ℕ
+hoods t = t.network.now.hood
+
+-- the rows of its rules are wired
+abbrev pub WiredTables : Tables → Type 0
+WiredTables t = Wired t.network.now.fields t.network.now.joined t.forward.now t.turned.now
+
+-- the table of its triple rules is one
+abbrev pub Tripled : Tables → Type 0
+Tripled t = TripleTable t.network.now.fields t.triples.now
 
 -- The tables and the joined fields hold the sheet's rules over two fields, `hood` has the neighbourhoods at its reach, and `triples` is how
 -- many triple rules it has.

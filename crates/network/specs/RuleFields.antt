@@ -3,51 +3,36 @@ use Rattle.std.specs.Prelude.{◌≡◌, Bool, List, ℕ, ◌≤◌, ◌<◌}
 use Rattle.std.proofs.Common.{sym, arith, lt-ltb, le-ltb}
 use Rattle.limits.specs.Limits.{most_fields, most_settings}
 use Rattle.masks.specs.Masks.{mask_of}
-use Rattle.accepted.specs.Parts.{fields_of, field_start, count_of, first_of, second_of, kind_of, number_of, setting_of, rule_allows}
-use Rattle.accepted.specs.Parts.{FieldAt, RuleAt}
+use Rattle.accepted.specs.Parts.{fields_of, count_of, first_of, second_of, kind_of, number_of, setting_of, rule_allows}
+use Rattle.accepted.specs.Parts.{RuleAt}
 use Rattle.accepted.specs.Kinds.{allows}
 use Rattle.accepted.specs.Facts.{Facts, facts}
 use Rattle.masks.proofs.Loops.{mask-false}
 use Rattle.network.specs.Built.{row_of}
 
--- rule r at its place, its fields i and j, and where their counts stand
-pub record RuleFields (xs : List ℕ) (r place i j atI atJ : ℕ) : Type 0 where
+-- rule r at its place, and its fields i and j
+pub record RuleFields (xs : List ℕ) (r place i j : ℕ) : Type 0 where
   pub rule : RuleAt xs r place
   pub first : i ≡ first_of xs r
   pub second : j ≡ second_of xs r
-  pub start_i : atI ≡ field_start xs i
-  pub start_j : atJ ≡ field_start xs j
 
--- the fields of a rule are two fields of the sheet, the lower one first
-pub fields-low : (xs : List ℕ) (r place i j : ℕ) → RuleAt xs r place → i ≡ first_of xs r → j ≡ second_of xs r
-    → (i < j) × (j < most_fields) × (i ≤ fields_of xs) × (j ≤ fields_of xs)
-fields-low xs r place i j a e d =
-    let fs = facts xs a.accepted in
-    let l = fs.apart r a.within in
-    let m = fs.within r a.within in
-    let n = fs.fields-few in
-    (omega arith, omega arith, omega arith, omega arith)
-
-module _ (xs : List ℕ) (r place i j atI atJ : ℕ) (g : RuleFields xs r place i j atI atJ) where
+module _ (xs : List ℕ) (r place i j : ℕ) (g : RuleFields xs r place i j) where
   fs : Facts xs
   fs = facts xs g.rule.accepted
 
-  pub field-i : FieldAt xs i atI
-  field-i = record {
-    field = record {
-      accepted = g.rule.accepted;
-      within = rw g.first (let a = fs.apart r g.rule.within in let b = fs.within r g.rule.within in omega arith);
-    };
-    at = g.start_i;
-  }
-
-  pub field-j : FieldAt xs j atJ
-  field-j =
-      record { field = record { accepted = g.rule.accepted; within = rw g.second (fs.within r g.rule.within) }; at = g.start_j }
+  -- the fields of a rule are two fields of the sheet, the lower one first
+  pub fields-low : (i < j) × (j < most_fields) × (i < fields_of xs) × (j < fields_of xs)
+  fields-low =
+      let e = g.first in
+      let d = g.second in
+      let l = fs.apart r g.rule.within in
+      let m = fs.within r g.rule.within in
+      let n = fs.fields-few in
+      (omega arith, omega arith, omega arith, omega arith)
 
   -- the counts are small
   pub counts-few : (count_of xs i ≤ most_settings) × (count_of xs j ≤ most_settings)
-  counts-few = (fs.count-few i field-i.field.within, fs.count-few j field-j.field.within)
+  counts-few = (fs.count-few i fields-low.2, fs.count-few j fields-low.3)
 
   -- a row past the settings of its field
   pub row-past : (v : ℕ) → count_of xs i ≤ v → 0 ≡ row_of xs r v

@@ -51,7 +51,7 @@ pub record RuleStored (xs : List ℕ) (r : ℕ) (rows rows' : List ℕ) : Type 0
   pub forward : Stored (forward_of rows) (slot_of xs r * most_settings) (row_of xs r) most_settings (forward_of rows')
   pub turned : Stored (turned_of rows) (slot_of xs r * most_settings) (column_of xs r) most_settings (turned_of rows')
 
-module _ (xs : List ℕ) (r place i j atI atJ : ℕ) (g : RuleFields xs r place i j atI atJ) where
+module _ (xs : List ℕ) (r place i j : ℕ) (g : RuleFields xs r place i j) where
   -- a rule of kind 0 has its rows as masks
   pub row-mask : (v c : ℕ) → kind_of xs r ≡ 0 → v < count_of xs i → c ≡ number_of xs r v → mask_of most_settings (bit c) ≡ row_of xs r v
   row-mask v c k h e =
@@ -60,22 +60,22 @@ module _ (xs : List ℕ) (r place i j atI atJ : ℕ) (g : RuleFields xs r place 
       let m = ((facts xs g.rule.accepted).mask_lt r v g.rule.within k (rw g.first at h)).0 in
       ap (λ (x : ℕ). mask_of most_settings (bit x)) (e ∙ n)
       ∙ mask-short (count_of xs (second_of xs r)) most_settings (bit (value_of xs r v))
-      (rw g.second at (counts-few xs r place i j atI atJ g).1)
+      (rw g.second at (counts-few xs r place i j g).1)
       (λ u l. bit_high (count_of xs (second_of xs r)) (value_of xs r v) u m l)
       ∙ mask_cong (count_of xs (second_of xs r)) (bit (value_of xs r v)) (λ u. rule_allows xs r v u)
       (λ u l. sym (pick_true _ _ _ z ∙ ap (λ (x : ℕ). bit x u) n))
-      ∙ rw g.second at (row_is xs r place i j atI atJ g v h)
+      ∙ rw g.second at (row_is xs r place i j g v h)
 
   module _ (w : List ℕ) (p : RowsTo xs r (count_of xs i) w) where
     row_at : (v : ℕ) → get_or w v 0 ≡ row_of xs r v
     row_at v = ⊎_elim (λ q. p.done v (ltb-true v (count_of xs i) q))
-        (λ q. let l = ltb-false v (count_of xs i) q in p.rest v l ∙ row-past xs r place i j atI atJ g v l)
+        (λ q. let l = ltb-false v (count_of xs i) q in p.rest v l ∙ row-past xs r place i j g v l)
         (bool_cases (ltb v (count_of xs i)))
 
     pub rows-rows : Rows w (count_of xs i) (count_of xs j)
     rows-rows = record {
-      few = (counts-few xs r place i j atI atJ g).0;
-      narrow = (counts-few xs r place i j atI atJ g).1;
+      few = (counts-few xs r place i j g).0;
+      narrow = (counts-few xs r place i j g).1;
       past = p.rest;
       low = λ v. rw (row_at v, g.second) (mask_of-lt (count_of xs (second_of xs r)) _);
     }

@@ -1,7 +1,7 @@
 -- A word for each setting, stored in a list of words. Assumes nothing.
-use Rattle.std.specs.Prelude.{◌≡◌, refl, ◌⊎◌, List, ℕ, ◌+◌, ◌≤◌, ◌<◌, ltb, length, get_or, set, take}
-use Rattle.std.proofs.Common.{sym, ap, ◌∙◌, inl, inr, ⊎_elim, eq-or-lt_of_le, arith, length-set, length-drop, get_or-set_same}
-use Rattle.std.proofs.Common.{get_or-set_other, ltb-true, ltb-false}
+use Rattle.std.specs.Prelude.{◌≡◌, refl, ◌⊎◌, List, ℕ, ◌+◌, ◌≤◌, ◌<◌, ltb, length, get_or, take}
+use Rattle.std.proofs.Common.{sym, ap, ◌∙◌, inl, inr, ⊎_elim, arith, length-drop}
+use Rattle.std.proofs.Common.{ltb-true, ltb-false}
 use Rattle.std.proofs.Math.ListN.{length-take, get_or-eq_default}
 use Rattle.std.proofs.Math.Seq.{get_or-take, get_or-drop}
 use Rattle.limits.specs.Limits.{most_settings, table_words}
@@ -21,21 +21,6 @@ pub record Stored (T0 : List ℕ) (base : ℕ) (w : ℕ → ℕ) (i : ℕ) (T : 
   pub sized : length T ≡ length T0
   pub here : (h : ℕ) → h < i → get_or T (base + h) 0 ≡ w h
   pub there : (j : ℕ) → ((j < base) ⊎ (base + most_settings ≤ j)) → get_or T j 0 ≡ get_or T0 j 0
-
-module _ (T0 : List ℕ) (base : ℕ) (w : ℕ → ℕ) where
-  pub stored-start : Stored T0 base w 0 T0
-  stored-start = record { sized = refl; here = λ h l. absurd (omega arith); there = λ j e. refl }
-
-  pub stored-turn : (i : ℕ) (T : List ℕ) (x : ℕ) → i < most_settings → base + i < length T → x ≡ w i → Stored T0 base w i T
-      → Stored T0 base w (i + 1) (set T (base + i) x)
-  stored-turn i T x b l e p = record {
-    sized = length-set T (base + i) x ∙ p.sized;
-    here = λ h k. ⊎_elim
-        (λ q. ap (λ (y : ℕ). get_or (set T (base + i) x) (base + y) 0) q ∙ get_or-set_same T (base + i) x 0 l ∙ e ∙ ap w (sym q))
-        (λ q. get_or-set_other T (base + i) (base + h) x 0 (λ z. omega arith) ∙ p.here h q)
-        (eq-or-lt_of_le (let j : h ≤ i = omega arith in j));
-    there = λ j o. get_or-set_other T (base + i) j x 0 (λ z. ⊎_elim (λ q. omega arith) (λ q. omega arith) o) ∙ p.there j o;
-  }
 
 -- ---- in a list that holds both tables
 

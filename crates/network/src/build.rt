@@ -8,7 +8,7 @@ ghost use Rattle.network.specs.Network.{NetworkOf};
 use super::fill::fill;
 use super::hoods::neighbourhoods;
 use super::links::link;
-use accepted::parts;
+use accepted::parts::AcceptedSheet;
 use limits::FIELDS;
 
 // Beside the tables: the number of fields, the reach, for each field the fields that a rule joins to it, and its neighbourhood; how many
@@ -27,18 +27,18 @@ pub fn build(numbers: &[u32], rows: &mut [u32]) -> Network
     requires { Accepted numbers.now × (rows_words ≤ length rows.old) }
     ensures { NetworkOf numbers.now result (forward_of rows.new) (turned_of rows.new) }
 {
-    let n = parts::fields(numbers);
-    let reach = parts::reach(numbers);
-    let at = parts::triples_at(numbers);
-    let triples = parts::triples_from(numbers, at);
-    let joined = fill(numbers, rows);
-    let links = link(numbers, at, triples, &joined);
+    let sheet = AcceptedSheet { numbers };
+    let n = sheet.fields();
+    let reach = sheet.reach();
+    let from = sheet.triples();
+    let joined = fill(sheet, rows);
+    let links = link(from, &joined);
     let hood = neighbourhoods(n, &links, reach);
     Network {
         fields: n,
         reach,
         joined,
         hood,
-        triples,
+        triples: from.count,
     }
 }

@@ -8,3 +8,4 @@ pub mod links; // links.rt: the linked fields
 pub mod hoods; // hoods.rt: the neighbourhoods of the fields
 pub mod triples; // triples.rt: the table of the triple rules
 pub mod build; // build.rt: the whole network
+pub mod tables; // tables.rt: the network with its tables, lent

@@ -52,9 +52,5 @@ pub fn store(words: &mut [u32], base: usize, w: &[u32; SETTINGS])
     requires { base + most_settings ≤ length words.old }
     ensures { Stored words.old base (words_of w.now) most_settings words.new }
 {
-    let mut h: usize = 0;
-    while h < SETTINGS {
-        words[base + h] = w[h];
-        h += 1;
-    }
+    words[base..base + SETTINGS].copy_from_slice(w);
 }

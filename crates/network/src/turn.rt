@@ -1,5 +1,5 @@
 // The rows of a rule turned round: from rows for the positions of its first field to rows for those of its second.
-ghost use Rattle.std.specs.Prelude.{◌≡◌, ◌≤◌, ◌<◌, length};
+ghost use Rattle.std.specs.Prelude.{◌≤◌, ◌<◌};
 ghost use Rattle.limits.specs.Limits.{most_settings};
 ghost use Rattle.network.specs.Turned.{Turning, Square, Rows, Columns};
 
@@ -8,14 +8,12 @@ use masks::{flood, one_bit};
 
 // Adds position v to the turned row of each position of a row below `side`.
 fn turn_row(row: u32, v: usize, side: usize, turned: &mut [u32; SETTINGS])
-    requires { (v < most_settings) × (side ≤ most_settings) × (length turned.old ≡ most_settings) }
+    requires { (v < most_settings) × (side ≤ most_settings) }
     ensures { Turning row v turned.old side turned.new }
 {
     let own = one_bit(v);
-    let mut u: usize = 0;
-    while u < side {
+    for u in 0..side {
         turned[u] |= flood(row, u) & own;
-        u += 1;
     }
 }
 
@@ -25,11 +23,8 @@ fn turn_square(rows: &[u32; SETTINGS], side: usize) -> [u32; SETTINGS]
     ensures { Square rows.now side side result }
 {
     let mut turned = [0u32; SETTINGS];
-    let mut v: usize = 0;
-    while v < side {
-        let row = rows[v];
-        turn_row(row, v, side, &mut turned);
-        v += 1;
+    for v in 0..side {
+        turn_row(rows[v], v, side, &mut turned);
     }
     turned
 }

@@ -5,12 +5,13 @@ ghost use Rattle.std.specs.Prelude.{◌≡◌, [], ◌∷◌, ◌+◌, ◌<◌, 
 ghost use Rattle.std.proofs.lemmas.List.Edits.{sets};
 ghost use Rattle.limits.specs.Limits.{text_bytes};
 ghost use Rattle.sheet.specs.Sources.{Accepted};
-ghost use Rattle.accepted.specs.Parts.{Field, count_of, fields_of};
+ghost use Rattle.accepted.specs.Parts.{count_of, fields_of};
 ghost use Rattle.printing.specs.Text.{decimal, offer, offered, blank_each, line, lines, refused_line, text};
 ghost use Rattle.printing.specs.Rooms.{offer_room, offers_room, line_room};
 ghost use Rattle.printing.specs.Puts.{Puts};
 
-use accepted::parts;
+use accepted::fields::Field;
+use accepted::parts::AcceptedSheet;
 use limits::OFFERS_WORDS;
 use masks::has_bit;
 
@@ -27,17 +28,12 @@ fn put_bytes(output: &mut [u8], place: usize, bytes: &[u8]) -> usize
     requires { place + length bytes.now ≤ length output.old }
     ensures { Puts output.old place bytes.now result output.new }
 {
-    let mut next = place;
-    let mut k: usize = 0;
-    while k < bytes.len() {
-        output[next] = bytes[k];
-        next += 1;
-        k += 1;
-    }
+    let next = place + bytes.len();
+    output[place..next].copy_from_slice(bytes);
     next
 }
 
-// The numeral of x.
+// The numeral of x. What `write!` writes is named by its clauses for a String alone, and a String needs a heap.
 fn put_decimal(output: &mut [u8], place: usize, x: u32) -> usize
     requires { place + length (decimal x) ≤ length output.old }
     ensures { Puts output.old place (decimal x) result output.new }
@@ -49,64 +45,52 @@ fn put_decimal(output: &mut [u8], place: usize, x: u32) -> usize
     put_byte(output, next, 48 + (x % 10) as u8)
 }
 
-// A blank and the setting of field f at position v, where the mask has it.
-fn put_offer(
-    output: &mut [u8],
-    place: usize,
-    numbers: &[u32],
-    f: usize,
-    v: usize,
-    mask: u32,
-) -> usize
-    requires { Field numbers.now f × (v < count_of numbers.now f) × (place + offer_room ≤ length output.old) }
-    ensures { Puts output.old place (blank_each (offer numbers.now f mask v)) result output.new }
+// A blank and the setting of a field at position v, where the mask has it.
+fn put_offer(output: &mut [u8], place: usize, field: Field, v: usize, mask: u32) -> usize
+    requires { (v < count_of field.numbers.now field.index) × (place + offer_room ≤ length output.old) }
+    ensures { Puts output.old place (blank_each (offer field.entry.numbers.now field.entry.index mask v)) result output.new }
 {
     if has_bit(mask, v) {
         let next = put_byte(output, place, b' ');
-        return put_decimal(output, next, parts::setting(numbers, f, v));
+        return put_decimal(output, next, field.setting(v));
     }
     place
 }
 
-// The settings of field f that the mask has.
-fn put_offers(output: &mut [u8], place: usize, numbers: &[u32], f: usize, mask: u32) -> usize
-    requires { Field numbers.now f × (place + offers_room ≤ length output.old) }
+// The settings of a field that the mask has.
+fn put_offers(output: &mut [u8], place: usize, field: Field, mask: u32) -> usize
+    requires { place + offers_room ≤ length output.old }
     ensures { Puts output.old place
-        (blank_each (offered numbers.now f mask (count_of numbers.now f))) result output.new }
+        (blank_each (offered field.entry.numbers.now field.entry.index mask (count_of field.entry.numbers.now field.entry.index)))
+        result output.new }
 {
-    let d = parts::count(numbers, f);
     let mut next = place;
-    let mut v: usize = 0;
-    while v < d {
-        next = put_offer(output, next, numbers, f, v, mask);
-        v += 1;
+    for v in 0..field.count() {
+        next = put_offer(output, next, field, v, mask);
     }
     next
 }
 
-// The line of field f.
-fn put_line(output: &mut [u8], place: usize, numbers: &[u32], f: usize, mask: u32) -> usize
-    requires { Field numbers.now f × (place + line_room ≤ length output.old) }
-    ensures { Puts output.old place (line numbers.now f mask) result output.new }
+// The line of a field.
+fn put_line(output: &mut [u8], place: usize, field: Field, mask: u32) -> usize
+    requires { place + line_room ≤ length output.old }
+    ensures { Puts output.old place (line field.entry.numbers.now field.entry.index mask) result output.new }
 {
-    let position = put_decimal(output, place, f as u32);
+    let position = put_decimal(output, place, field.index as u32);
     let colon = put_byte(output, position, b':');
-    let settings = put_offers(output, colon, numbers, f, mask);
+    let settings = put_offers(output, colon, field, mask);
     put_byte(output, settings, b'\n')
 }
 
 // The lines of all fields, from the front of the output.
-fn put_lines(output: &mut [u8], numbers: &[u32], offers: &[u32; OFFERS_WORDS]) -> usize
-    requires { Accepted numbers.now × (text_bytes ≤ length output.old) }
+fn put_lines(output: &mut [u8], sheet: AcceptedSheet, offers: &[u32; OFFERS_WORDS]) -> usize
+    requires { text_bytes ≤ length output.old }
     ensures { Puts output.old 0
-        (lines numbers.now offers.now (fields_of numbers.now)) result output.new }
+        (lines sheet.entry.numbers.now offers.now (fields_of sheet.entry.numbers.now)) result output.new }
 {
-    let n = parts::fields(numbers);
     let mut next: usize = 0;
-    let mut f: usize = 0;
-    while f < n {
-        next = put_line(output, next, numbers, f, offers[f]);
-        f += 1;
+    for f in 0..sheet.fields() {
+        next = put_line(output, next, sheet.field(f), offers[f]);
     }
     next
 }
@@ -129,7 +113,7 @@ pub fn text(numbers: &[u32], number: u32, offers: &[u32; OFFERS_WORDS], output: 
         × (result ≤ text_bytes) }
 {
     if number == 0 {
-        return put_lines(output, numbers, offers);
+        return put_lines(output, AcceptedSheet { numbers }, offers);
     }
     put_refused(output, number)
 }

@@ -1,5 +1,6 @@
 -- What closing promises, for any problem. Assumes nothing.
-use Rattle.std.specs.Prelude.{◌≡◌, Bool, false, not, List, ℕ, length}
+use Rattle.std.specs.Prelude.{◌≡◌, Bool, true, false, not, List, ℕ, length}
+use Rattle.std.proofs.Common.{true≢false}
 use Rattle.masks.specs.Bits.{Within}
 use Rattle.consistency.specs.Problem.{Problem}
 use Rattle.consistency.specs.Closing.{closing}
@@ -14,3 +15,13 @@ module _ (P : Problem) where
     pub made : wiped ≡ false → S ≡ closing P W S0
     pub shrunk : wiped ≡ false → Shrunk S0 S touched
     pub marks : wiped ≡ false → Within touched W
+
+  -- where a field is empty, the fields that lost settings are of no account
+  pub closes-wiped : {W : ℕ} {S0 S : List ℕ} {some any : ℕ} → Closes W S0 true some S → Closes W S0 true any S
+  closes-wiped c = record {
+    sized = c.sized;
+    wipes = c.wipes;
+    made = λ e. absurd (true≢false e);
+    shrunk = λ e. absurd (true≢false e);
+    marks = λ e. absurd (true≢false e);
+  }

@@ -215,15 +215,12 @@ module _ (near : ℕ) (none D L : List ℕ) (t : ℕ) where
         same f a = sym (has-without R i gone f a ∙ rw (z, bit_of-zero a, and-false (eqb f i)) (and-true (has R f a)))
 
     -- what `move_out` asks
-    pub move_asks : length D ≡ most_fields → Small D → near < 2 ^ most_fields → length L ≡ list_places → t + count D ≤ list_places
-        → (length R ≡ most_fields) × Small R × (i < most_fields) × Within gone (get_or R i 0) × (length K ≡ list_places)
-        × (u + count R ≤ list_places)
-    move_asks n s l h c = (
-      p.moved.sized ∙ n,
+    pub move_asks : Small D → near < 2 ^ most_fields → t + count D ≤ list_places
+        → Small R × (i < most_fields) × Within gone (get_or R i 0) × (u + count R ≤ list_places)
+    move_asks s l c = (
       small_⊆ D R p.moved.inside s,
       bit_bound most_fields near i l (p.lefts i b),
       gone-within,
-      p.moved.long ∙ h,
       (let r = p.moved.room in omega arith),
     )
 

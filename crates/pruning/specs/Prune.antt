@@ -2,14 +2,14 @@
 use Rattle.std.specs.Prelude.{◌≡◌, refl, ◌⊎◌, Bool, not, ◌&&◌, List, ℕ, ◌+◌, ◌*◌, ◌^◌, ◌≤◌, ◌<◌, eqb, ltb, length, get_or}
 use Rattle.std.proofs.Common.{sym, ap, ◌∙◌, inl, inr, true≢false, arith, eqb-true, eq-eqb, ltb-true, ltb-false}
 use Rattle.std.proofs.Math.Logic.{⊎_elim}
-use Rattle.std.proofs.Math.Bool.{true, false}
-use Rattle.std.specs.Int.Bits.{bit_or}
+use Rattle.std.proofs.Math.Bool.{true, false, or_assoc}
+use Rattle.std.specs.Int.Bits.{bit_or, or_zero_r}
 use Rattle.std.proofs.lemmas.Bool.{eqb-false}
 use Rattle.limits.specs.Limits.{most_fields, most_settings, counts_words, counter_words, list_places}
 use Rattle.masks.specs.Tests.{never, not_so, bool_cases, eq_cases, and_l, and_r, and-by}
 use Rattle.masks.specs.Bits.{bit, Within}
-use Rattle.masks.proofs.Bits.{bit_of-zero}
-use Rattle.masks.proofs.Words.{bit-one}
+use Rattle.masks.proofs.Bits.{bit_of-zero, bit_ext}
+use Rattle.masks.proofs.Words.{bit-one, bit-or}
 use Rattle.masks.specs.Masks.{digit}
 use Rattle.masks.specs.Sets.{has, ◌⊆◌, count}
 use Rattle.masks.specs.Settings.{lose, length-lose, empty}
@@ -28,6 +28,21 @@ use Rattle.pruning.specs.Drop.{dropped, has-dropped, Dropped}
 use Rattle.pruning.specs.Close.{Closes}
 use Rattle.pruning.specs.Pending.{Pending, pending-start, pending_done, pending-moved, pending-take, taken-there}
 use Rattle.pruning.specs.Pending.{count-lowered, counts-take}
+
+or_joins : (x y z : ℕ) → bit_or (bit_or x y) z ≡ bit_or x (bit_or y z)
+or_joins x y z = bit_ext _ _ (λ a. rw (bit-or (bit_or x y) z a, bit-or x y a, bit-or x (bit_or y z) a, bit-or y z a)
+    (or_assoc (bit x a) (bit y a) (bit z a)))
+
+-- the fields of s were added to those of `before`, and what holds of them holds
+abbrev pub Spends : (before after : ℕ) → (ℕ → Type 0) → Type 0
+Spends before after holds = (s : ℕ) × (after ≡ bit_or before s) × holds s
+
+pub spends-none : (before : ℕ) (holds : ℕ → Type 0) → holds 0 → Spends before before holds
+spends-none before holds h = (0, sym (or_zero_r before), h)
+
+pub spends-more : (before after s one : ℕ) (holds : ℕ → Type 0) → after ≡ bit_or before s → holds (bit_or s one)
+    → Spends before (bit_or after one) holds
+spends-more before after s one holds e h = (bit_or s one, rw e (or_joins before s one), h)
 
 -- no word changed but those of the counts towards the fields of `spent`
 pub record OnlySpent (spent : ℕ) (C R : List ℕ) : Type 0 where
@@ -140,11 +155,10 @@ module _ (P : Problem) (W : ℕ) (S : List ℕ) where
         all_moved = moved_then l.moved p.moved
 
         -- there is a place for each setting, since none enters twice
-        pub places-enough : (length L ≡ list_places) × (t + count D ≤ list_places)
-        places-enough =
-            let r = all_moved.room in let m = l.room in (all_moved.long ∙ l.places, omega arith)
+        pub places-enough : t + count D ≤ list_places
+        places-enough = let r = all_moved.room in let m = l.room in omega arith
 
-        pub set-sized : length D ≡ most_fields
+        set-sized : length D ≡ most_fields
         set-sized = all_moved.sized ∙ l.long
 
         pub set-small : Small D

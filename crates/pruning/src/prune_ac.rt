@@ -1,26 +1,20 @@
 // pruneAC of Figure 2: the removal list is emptied. The names of the figure: d is D, counter is Counter, support is S, list is listAC. A
 // setting is marked in M where it was in D once and is not now.
-ghost use Rattle.std.specs.Prelude.{◌≡◌, ◌≤◌, ◌<◌, length};
-ghost use Rattle.limits.specs.Limits.{most_fields, counter_words, list_places};
-ghost use Rattle.network.specs.Tables.{rule_problem, Wired};
-ghost use Rattle.pruning.specs.Prune.{PruneAsks, Pruned};
+ghost use Rattle.std.specs.Prelude.{◌≤◌, ◌<◌};
+ghost use Rattle.limits.specs.Limits.{most_fields, list_places};
+ghost use Rattle.limits.specs.Refusals.{is_wiped, fields_in};
+ghost use Rattle.network.specs.Network.{rules, WiredTables};
+ghost use Rattle.pruning.specs.Prune.{PruneAsks, Pruned, Spends};
 ghost use Rattle.pruning.specs.PruneTurn.{SetLowered, EnoughLowered};
 
 use super::drop::{drop, meet};
 use super::support_set::support_set;
-use counter::lower;
-use limits::{COUNTER_WORDS, FIELDS, LIST_PLACES, SETTINGS, SUPPORT_WORDS};
+use counter::{Counter, lower};
+use limits::refusals::WipedOut;
+use limits::{COUNTER_WORDS, FIELDS, SETTINGS, SUPPORT_WORDS};
 use masks::one_bit;
-
-// What became of the set: whether a field has nothing left, which fields lost settings, the fields towards which counts were lowered, and
-// the tail of the list.
-#[derive(Clone, Copy)]
-pub struct AfterPrune {
-    pub wiped: bool,
-    pub changed: u32,
-    pub spent: u32,
-    pub tail: usize,
-}
+use network::tables::Tables;
+use removal_list::RemovalList;
 
 // Lines 3 and 4 for the (i, a) of S_jb in the first `wide` fields, all at once. `none` becomes those whose count is 0 then. Whether some of
 // them are in the set.
@@ -33,7 +27,7 @@ fn lower_set(
     j: usize,
     wide: usize,
 ) -> bool
-    requires { (x < list_places) × (j < most_fields) × (wide ≤ most_fields) × (length counter.old ≡ counter_words) }
+    requires { (x < list_places) × (j < most_fields) × (wide ≤ most_fields) }
     ensures { SetLowered d.now counter.old support.now x j wide result none.new
         counter.new }
 {
@@ -54,7 +48,7 @@ fn lower_fields(
     j: usize,
     n: usize,
 ) -> bool
-    requires { (x < list_places) × (j < most_fields) × (n ≤ most_fields) × (length counter.old ≡ counter_words) }
+    requires { (x < list_places) × (j < most_fields) × (n ≤ most_fields) }
     ensures { EnoughLowered d.now counter.old support.now x j n result none.new
         counter.new }
 {
@@ -67,60 +61,39 @@ fn lower_fields(
     lower_set(d, none, counter, support, x, j, FIELDS)
 }
 
-// The places of the list before `start` are of settings that were taken before. It drops settings of the fields of `within` only, and ends
-// where one of them has nothing left. The tables are there for the contract, which speaks of the problem of n fields that they hold.
+// The settings of the list before `start` were taken before. It drops settings of the fields of `within` only, and ends where one of them
+// has nothing left. The fields that lost settings.
 pub fn prune_ac<'a>(
     d: &mut [u32; FIELDS],
-    n: usize,
     within: u32,
-    counter: &mut [u32; COUNTER_WORDS],
+    counter: &mut Counter,
     support: &[u32; SUPPORT_WORDS],
-    list: &mut [u32; LIST_PLACES],
+    list: &mut RemovalList,
     start: usize,
-    tail: usize,
-    joined: &[u32; FIELDS],
-    forward: &'a [u32],
-    turned: &'a [u32],
-) -> AfterPrune
-    requires { Wired n joined.now forward.now turned.now
-        × PruneAsks (rule_problem n joined.now forward.now turned.now) within support.now start d.old list.old tail
-        counter.old }
-    ensures { Pruned (rule_problem n joined.now forward.now turned.now) within support.now
-        d.old list.old tail counter.old result.wiped result.changed result.spent
-        d.new list.new result.tail counter.new }
+    tables: &Tables<'a>,
+) -> Result<u32, WipedOut>
+    requires { WiredTables tables.now
+        × PruneAsks (rules tables.now) within support.now start d.old list.old.places list.old.tail counter.old.counts }
+    ensures { Spends counter.old.spent counter.new.spent (λ spent. Pruned (rules tables.now) within support.now
+        d.old list.old.places list.old.tail counter.old.counts (is_wiped result) (fields_in result) spent
+        d.new list.new.places list.new.tail counter.new.counts) }
 {
+    let n = tables.network.fields;
     let mut changed: u32 = 0;
-    let mut spent: u32 = 0;
-    let mut t = tail;
     let mut head = start;
     let mut none = [0u32; FIELDS];
     // 1
-    while head < t {
+    while head < list.tail {
         // 2: (j, b), which entered first of those that wait
-        let x = list[head] as usize;
+        let x = list.places[head] as usize;
         head += 1;
         let j = x / SETTINGS;
-        spent |= one_bit(j);
+        counter.spent |= one_bit(j);
         // 3, 4: for all (i, a) of S_jb at once; whether 5 holds of some
-        if lower_fields(d, &mut none, counter, support, x, j, n) {
+        if lower_fields(d, &mut none, &mut counter.counts, support, x, j, n) {
             // 5 to 8
-            let r = drop(d, &none, joined[j] & within, list, t);
-            t = r.tail;
-            if r.wiped {
-                return AfterPrune {
-                    wiped: true,
-                    changed,
-                    spent,
-                    tail: t,
-                };
-            }
-            changed |= r.lost;
+            changed |= drop(d, &none, tables.network.joined[j] & within, list)?;
         }
     }
-    AfterPrune {
-        wiped: false,
-        changed,
-        spent,
-        tail: t,
-    }
+    Ok(changed)
 }

@@ -12,10 +12,6 @@ pub fn support_set(support: &[u32; SUPPORT_WORDS], x: usize) -> [u32; FIELDS]
     ensures { SetOf support.now x most_fields result }
 {
     let mut s = [0u32; FIELDS];
-    let mut i: usize = 0;
-    while i < FIELDS {
-        s[i] = support[x * FIELDS + i];
-        i += 1;
-    }
+    s.copy_from_slice(&support[x * FIELDS..x * FIELDS + FIELDS]);
     s
 }

@@ -18,6 +18,7 @@ use Rattle.consistency.specs.Passing.{none_empty, none_empty-by}
 use Rattle.consistency.specs.Revising.{rules_only, ClosedUnder, closed_both, closed_under-same}
 use Rattle.consistency.proofs.Revising.{closing_of_rules}
 use Rattle.pruning.specs.Shrunk.{or-not, zero_or, or-within, Shrunk, shrunk-none, shrunk-then, shrunk-still, shrunk_fewer}
+use Rattle.pruning.specs.Close.{closes-wiped}
 use Rattle.pruning.specs.Prune.{OnlySpent, Pruned}
 use Rattle.revising.specs.Turn.{Emptied, closing-none, Turned}
 
@@ -25,6 +26,18 @@ use Rattle.revising.specs.Turn.{Emptied, closing-none, Turned}
 spent_then : {a b : ℕ} {C D E : List ℕ} → OnlySpent a C D → OnlySpent b D E → OnlySpent (bit_or a b) C E
 spent_then {a} {b} x y = record {
   same = λ j e q l h. let n = or-not a b j e in y.same j n.1 q l h ∙ x.same j n.0 q l h;
+}
+
+-- where a field has nothing left, the fields that lost settings are of no account
+pub pruned_wiped : {P : Problem} {W : ℕ} {S D1 L1 : List ℕ} {t1 : ℕ} {C1 : List ℕ} {some any spent : ℕ} {D L : List ℕ} {t : ℕ}
+    {C : List ℕ} → Pruned P W S D1 L1 t1 C1 true some spent D L t C → Pruned P W S D1 L1 t1 C1 true any spent D L t C
+pruned_wiped {P} p = record {
+  closes = closes-wiped P p.closes;
+  moved = p.moved;
+  counts = p.counts;
+  long = p.long;
+  spends = p.spends;
+  frame = p.frame;
 }
 
 module _ (P : Problem) (W : ℕ) where

@@ -1,5 +1,5 @@
 -- A turn: a set is revised under one triple rule, and the removal list is emptied again. Assumes nothing.
-use Rattle.std.specs.Prelude.{◌≡◌, refl, Bool, true, false, not, List, ℕ, ◌+◌, ◌≤◌, ◌<◌, length}
+use Rattle.std.specs.Prelude.{Result, Ok, Err, ◌≡◌, refl, Bool, true, false, not, List, ℕ, ◌+◌, ◌≤◌, ◌<◌, length}
 use Rattle.std.proofs.Common.{sym, ap, ◌∙◌, ⊎_elim, true≢false, arith}
 use Rattle.std.proofs.lemmas.Bool.{not-true}
 use Rattle.limits.specs.Limits.{most_fields, counter_words, list_places}
@@ -21,6 +21,16 @@ use Rattle.pruning.specs.Shrunk.{small_⊆, Shrunk}
 use Rattle.pruning.specs.Supports.{Counts, Supports, supports-less, closed_positive}
 use Rattle.pruning.specs.Drop.{dropped, Dropped}
 use Rattle.pruning.specs.Prune.{OnlySpent, PruneAsks, Pruned}
+use Rattle.revising.specs.declared.narrow.AfterTurn.{AfterTurn}
+
+-- the fields that a revision took settings from, and those that lost some after it, where no field has nothing left
+abbrev pub lost_in : {E : Type 0} → Result AfterTurn E → ℕ
+lost_in (Ok r) = r.lost
+lost_in (Err e) = 0
+
+abbrev pub changed_in : {E : Type 0} → Result AfterTurn E → ℕ
+changed_in (Ok r) = r.changed
+changed_in (Err e) = 0
 
 module _ (P : Problem) (W : ℕ) (S : List ℕ) where
   -- The removal list is empty: the set is closed by the rules over two fields, and the counts are those of it.
@@ -51,6 +61,25 @@ module _ (P : Problem) (W : ℕ) (S : List ℕ) where
     pub spends : Within spent W
     pub frame : OnlySpent spent C E
     pub long : length E ≡ counter_words
+
+  -- where a field has nothing left, the fields that lost settings are of no account
+  pub turned-wiped : {k : ℕ} {D L : List ℕ} {t : ℕ} {C : List ℕ} {some others spent : ℕ} {R K : List ℕ} {u : ℕ} {E : List ℕ}
+      → Turned k D L t C true some others spent R K u E → (any more : ℕ) → Turned k D L t C true any more spent R K u E
+  turned-wiped d any more = record {
+    moved = d.moved;
+    none = d.none;
+    kept = d.kept;
+    emptied = d.emptied;
+    middle = d.middle;
+    before = λ q. absurd (true≢false q);
+    after = λ q. absurd (true≢false q);
+    under = d.under;
+    marks-lost = λ q. absurd (true≢false q);
+    marks-changed = λ q. absurd (true≢false q);
+    spends = d.spends;
+    frame = d.frame;
+    long = d.long;
+  }
 
   module _ (on : (f : ℕ) → bit W f ≡ true → f < P.fields) (few : P.fields ≤ most_fields) where
     -- the closing of a set is inside what pruneAC leaves of a part that has it

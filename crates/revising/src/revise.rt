@@ -19,7 +19,7 @@ pub fn revise(
     triples: &[u32],
     t: usize,
 ) -> u32
-    requires { TripleTable n triples.now × (n ≤ most_fields) × (t < triple_count triples.now) × (length none.old ≡ most_fields) }
+    requires { TripleTable n triples.now × (n ≤ most_fields) × (t < triple_count triples.now) }
     ensures { Revision triples.now t within d.now result none.new }
 {
     let place = TRIPLES_FRONT + t * TRIPLE_WORDS;

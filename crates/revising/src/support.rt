@@ -4,7 +4,8 @@ ghost use Rattle.limits.specs.Limits.{most_settings};
 ghost use Rattle.revising.specs.Support.{Beside, Supported3};
 
 use limits::SETTINGS;
-use masks::{clear_bit, lowest_bit, one_bit};
+use masks::one_bit;
+use masks::positions::positions;
 
 // The positions of two fields.
 #[derive(Clone, Copy)]
@@ -29,10 +30,7 @@ fn beside(triples: &[u32], row: usize, middle: u32, upper: u32) -> Two
 {
     let mut second: u32 = 0;
     let mut third: u32 = 0;
-    let mut left = middle;
-    while left != 0 {
-        let q = lowest_bit(left);
-        left = clear_bit(left, q);
+    for q in positions(middle) {
         let both = triples[row + q] & upper;
         if both != 0 {
             second |= one_bit(q);
@@ -50,10 +48,7 @@ pub fn support(triples: &[u32], rows: usize, lower: u32, middle: u32, upper: u32
     let mut first: u32 = 0;
     let mut second: u32 = 0;
     let mut third: u32 = 0;
-    let mut left = lower;
-    while left != 0 {
-        let p = lowest_bit(left);
-        left = clear_bit(left, p);
+    for p in positions(lower) {
         let two = beside(triples, rows + p * SETTINGS, middle, upper);
         if two.third != 0 {
             first |= one_bit(p);

@@ -5,7 +5,8 @@ ghost use Rattle.network.specs.TripleTable.{TripleTable};
 ghost use Rattle.revising.specs.Table.{free_mask, FieldsBelow, Touching};
 
 use limits::FIELDS;
-use masks::{clear_bit, has_bit, lowest_bit};
+use masks::has_bit;
+use masks::positions::positions;
 
 // The field at a place.
 pub fn field(triples: &[u32], place: usize) -> usize
@@ -33,10 +34,7 @@ pub fn touched(triples: &[u32], n: usize, fields: u32) -> u32
         return 0;
     }
     let mut some: u32 = 0;
-    let mut left = fields;
-    while left != 0 {
-        let f = lowest_bit(left);
-        left = clear_bit(left, f);
+    for f in positions(fields) {
         some |= triples[1 + FIELDS + f];
     }
     some

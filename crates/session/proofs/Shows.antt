@@ -5,17 +5,19 @@ use Rattle.std.proofs.Common.{◌∙◌, add-one, arith}
 use Rattle.limits.specs.Limits.{most_fields}
 use Rattle.masks.proofs.Bits.{bit_of-zero}
 use Rattle.masks.specs.Sets.{has, get_d_zeros}
+use Rattle.ledger.specs.declared.Decision.{Decision}
+use Rattle.ledger.specs.declared.Decision.TheVariants.{Choice, Strike}
 use Rattle.ledger.specs.declared.Event.{Event}
 use Rattle.ledger.specs.declared.Call.{Call}
 use Rattle.ledger.specs.declared.Call.TheVariants.{Open, Show, Decide, Back, CoilOn}
-use Rattle.ledger.specs.Ledger.{Decision, choice, strike, change_of, in_force, backed, step}
+use Rattle.ledger.specs.Ledger.{change_of, in_force, backed, step}
 use Rattle.ledger.specs.Laws.{SameLedger}
 use Rattle.ledger.proofs.Laws.{same_ledger}
 use Rattle.session.specs.declared.Session.{Session}
-use Rattle.session.specs.Decisions.{held_in, change_low}
+use Rattle.session.specs.Decisions.{no_decisions, held_in, change_low}
 use Rattle.session.specs.View.{decisions_of, in_force_of, past, past-push, past-latest, view, Sized}
 use Rattle.session.specs.Form.{alike-applied_in, alike-reverted_in}
-use Rattle.session.specs.Steps.{no_decisions, recorded, latest, undone, stepped, RecordAsks, UndoAsks, StepAsks}
+use Rattle.session.specs.Steps.{recorded, latest, undone, stepped, RecordAsks, UndoAsks, StepAsks}
 
 module _ (s : Session) (z : Sized s) where
   record_same : (e : Event) → RecordAsks e s → SameLedger (view (recorded s e)) (step (Decide e) (view s))
@@ -41,8 +43,8 @@ module _ (s : Session) (z : Sized s) where
 
   none : (d : Decision) → held_in no_decisions d ≡ in_force [] d
   unfolding has in_force
-  none (choice f v) = rw (get_d_zeros most_fields f) (bit_of-zero v)
-  none (strike f v) = rw (get_d_zeros most_fields f) (bit_of-zero v)
+  none (Choice f v) = rw (get_d_zeros most_fields f) (bit_of-zero v)
+  none (Strike f v) = rw (get_d_zeros most_fields f) (bit_of-zero v)
 
   -- The session after a call shows the ledger's step.
   pub view-step : (c : Call) → StepAsks c s → SameLedger (view (stepped c s)) (step c (view s))

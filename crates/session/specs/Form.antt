@@ -16,28 +16,37 @@ use Rattle.masks.proofs.Masks.{bit-keep_bits, some_bit-at, some_bit-by}
 use Rattle.masks.proofs.Words.{bit-and-not}
 use Rattle.masks.specs.Sets.{has}
 use Rattle.accepted.specs.declared.outline.Outline.{Outline}
+use Rattle.ledger.specs.declared.Decision.{Decision}
+use Rattle.ledger.specs.declared.Decision.TheVariants.{Choice, Strike}
+use Rattle.ledger.specs.declared.Change.{Change}
+use Rattle.ledger.specs.declared.Change.TheVariants.{Adds, Withdraws, Neither}
 use Rattle.ledger.specs.declared.Event.{Event}
-use Rattle.ledger.specs.Ledger.{Decision, choice, strike, Change, adds, withdraws, neither, change_of, same_decision, in_force, with}
+use Rattle.ledger.specs.Ledger.{change_of, same_decision, in_force, with}
 use Rattle.ledger.specs.Ledger.{without}
 use Rattle.ledger.specs.Ledger.{applied, reverted, on_sheet, all_on_sheet, revertible, reversible, no_selection, malformed}
-use Rattle.ledger.specs.Kinds.{change_any}
 use Rattle.ledger.specs.Laws.{Alike}
 use Rattle.ledger.proofs.Laws.{in_force-with, in_force-without, all_on_at, all_on_by, alike-reversible}
 use Rattle.session.specs.declared.Session.{Session}
 use Rattle.session.specs.declared.decisions.Decisions.{Decisions}
 use Rattle.session.specs.Decisions.{held_in, gained, lost, applied_in, reverted_in, Found, Long, reverted-long, Low, LowChange}
-use Rattle.session.specs.Decisions.{change_low, held-gained, held-lost}
+use Rattle.session.specs.Decisions.{Within, WithinChange, within-low}
+use Rattle.session.specs.Decisions.{held-gained, held-lost}
 use Rattle.session.specs.View.{decisions_of, in_force_of, no_event, past, length-past, past-latest, view}
 
 -- ---- a decision on the sheet
 
-pub on-choice : (o : Outline) (f v : ℕ) → on_sheet o (choice f v) ≡ has o.full f v
-unfolding on_sheet
-on-choice o f v = refl
+-- whether a decision is on the sheet; one that is lies within the masks
+pub record OnSheet (o : Outline) (x : Decision) (r : Bool) : Type 0 where
+  pub is : r ≡ on_sheet o x
+  pub low : r ≡ true → Within x
 
-pub on-strike : (o : Outline) (f v : ℕ) → on_sheet o (strike f v) ≡ has o.full f v
+pub on-choice : (o : Outline) (f v : ℕ) (r : Bool) → Found o.full f v r → OnSheet o (Choice f v) r
 unfolding on_sheet
-on-strike o f v = refl
+on-choice o f v r k = record { is = k.is; low = k.low }
+
+pub on-strike : (o : Outline) (f v : ℕ) (r : Bool) → Found o.full f v r → OnSheet o (Strike f v) r
+unfolding on_sheet
+on-strike o f v r k = record { is = k.is; low = k.low }
 
 -- ---- masks on the sheet
 
@@ -95,15 +104,15 @@ module _ (o : Outline) (d : Decisions) (l : Long d) where
   unfolding on_sheet
   all_on = iff_eq _ _
       (λ h. and-by _ _
-      (masks-by o.full d.choices (λ f v b. all_on_at o (decisions_of d) h (choice f v) (in_force_of d (choice f v) ∙ b)))
-      (masks-by o.full d.strikes (λ f v b. all_on_at o (decisions_of d) h (strike f v) (in_force_of d (strike f v) ∙ b))))
+      (masks-by o.full d.choices (λ f v b. all_on_at o (decisions_of d) h (Choice f v) (in_force_of d (Choice f v) ∙ b)))
+      (masks-by o.full d.strikes (λ f v b. all_on_at o (decisions_of d) h (Strike f v) (in_force_of d (Strike f v) ∙ b))))
       (λ h. all_on_by o (decisions_of d) (λ e q.
       by e (sym (in_force_of d e) ∙ q) (and_l _ _ h) (and_r (masks_on_sheet o.full d.choices) _ h)))
     where
       by : (e : Decision) → held_in d e ≡ true → masks_on_sheet o.full d.choices ≡ true
           → masks_on_sheet o.full d.strikes ≡ true → on_sheet o e ≡ true
-      by (choice f v) b p q = unfold on_sheet in masks-at o.full d.choices l.choices p f v b
-      by (strike f v) b p q = unfold on_sheet in masks-at o.full d.strikes l.strikes q f v b
+      by (Choice f v) b p q = unfold on_sheet in masks-at o.full d.choices l.choices p f v b
+      by (Strike f v) b p q = unfold on_sheet in masks-at o.full d.strikes l.strikes q f v b
 
 -- ---- a change of the masks is that of the decisions
 
@@ -117,49 +126,32 @@ module _ (d : Decisions) (l : Long d) where
       ∙ sym (held-gained d l x h e) ∙ sym (in_force_of (gained d x) e)
 
   pub alike-applied_in : (k : Change) → LowChange k → Alike (applied k (decisions_of d)) (decisions_of (applied_in k d))
-  alike-applied_in (adds x) h = alike-gained x h
-  alike-applied_in (withdraws x) h = alike-lost x h
-  alike-applied_in neither h = λ e. refl
+  alike-applied_in (Adds x) h = alike-gained x h
+  alike-applied_in (Withdraws x) h = alike-lost x h
+  alike-applied_in Neither h = λ e. refl
 
   pub alike-reverted_in : (k : Change) → LowChange k → Alike (reverted k (decisions_of d)) (decisions_of (reverted_in k d))
-  alike-reverted_in (adds x) h = alike-lost x h
-  alike-reverted_in (withdraws x) h = alike-gained x h
-  alike-reverted_in neither h = λ e. refl
+  alike-reverted_in (Adds x) h = alike-lost x h
+  alike-reverted_in (Withdraws x) h = alike-gained x h
+  alike-reverted_in Neither h = λ e. refl
 
 -- ---- the events, from the latest on
 
--- whether an event can be reversed; if so, its decision lies within the masks
-pub record CanRevert (o : Outline) (d : Decisions) (e : Event) (r : Bool) : Type 0 where
-  pub is : r ≡ revertible o (change_of e) (decisions_of d)
-  pub low : r ≡ true → (e.field < most_fields) × (e.position < 32)
+-- whether a change can be reversed; if so, its decision lies within the masks
+pub record CanRevert (o : Outline) (d : Decisions) (k : Change) (r : Bool) : Type 0 where
+  pub is : r ≡ revertible o k (decisions_of d)
+  pub low : r ≡ true → WithinChange k
 
-module _ (o : Outline) (d : Decisions) (e : Event) where
-  module _ (on : Bool) (found : Found o.full e.field e.position on) where
-    pub revert-off : on ≡ false → CanRevert o d e false
-    unfolding on_sheet
-    revert-off n = record {
-      is = change_any e.kind e.field e.position (λ k. false ≡ revertible o k (decisions_of d)) (off _) (off _) (off _) (off _) refl;
-      low = λ z. absurd (never z refl);
-    }
-      where
-        off : (b : Bool) → false ≡ (has o.full e.field e.position && b)
-        off b = ap (λ (t : Bool). t && b) (sym n ∙ found.is)
+module _ (o : Outline) (d : Decisions) (x : Decision) (on : Bool) (s : OnSheet o x on) (y : on ≡ true) (held : Bool)
+    (h : held ≡ held_in d x) where
+  here : (b : Bool) → b ≡ (on_sheet o x && b)
+  here b = sym (ap (λ (t : Bool). t && b) (sym s.is ∙ y))
 
-    module _ (y : on ≡ true) (x : Decision) (s : on_sheet o x ≡ has o.full e.field e.position) (r : Bool) (h : r ≡ held_in d x) where
-      here : (b : Bool) → b ≡ (on_sheet o x && b)
-      here b = sym (ap (λ (t : Bool). t && b) (s ∙ sym found.is ∙ y))
+  pub revert_addition : CanRevert o d (Adds x) held
+  revert_addition = record { is = h ∙ sym (in_force_of d x) ∙ here (in_force (decisions_of d) x); low = λ _. s.low y }
 
-      pub revert_addition : change_of e ≡ adds x → CanRevert o d e r
-      revert_addition q = record { is = rw q (h ∙ sym (in_force_of d x) ∙ here (in_force (decisions_of d) x)); low = λ _. found.low y }
-
-      pub revert_withdrawal : change_of e ≡ withdraws x → CanRevert o d e (not r)
-      revert_withdrawal q = record {
-        is = rw q (ap not (h ∙ sym (in_force_of d x)) ∙ here (not (in_force (decisions_of d) x)));
-        low = λ _. found.low y;
-      }
-
-  pub revert-none : change_of e ≡ neither → CanRevert o d e false
-  revert-none q = record { is = rw q; low = λ z. absurd (never z refl) }
+  pub revert_withdrawal : CanRevert o d (Withdraws x) (not held)
+  revert_withdrawal = record { is = ap not (h ∙ sym (in_force_of d x)) ∙ here (not (in_force (decisions_of d) x)); low = λ _. s.low y }
 
 -- The first k events are still to be reversed.
 pub record Reversing (o : Outline) (start : Decisions) (es : List Event) (count : ℕ) (d : Decisions) (k : ℕ) : Type 0 where
@@ -183,7 +175,7 @@ module _ (o : Outline) (start : Decisions) (es : List Event) (count : ℕ) where
         p.rest ∙ rw (past-latest es k h)
         (ap (λ (t : Bool). t && reversible o (past es (k - 1)) (reverted (change_of e) (decisions_of d))) q)
 
-    module _ (can : Bool) (r : CanRevert o d e can) where
+    module _ (can : Bool) (r : CanRevert o d (change_of e) can) where
       pub reversing_stuck : can ≡ false → false ≡ reversible o (past es count) (decisions_of start)
       reversing_stuck n = sym (latest false (sym r.is ∙ n))
 
@@ -193,7 +185,7 @@ module _ (o : Outline) (start : Decisions) (es : List Event) (count : ℕ) where
         long = reverted-long (change_of e) d p.long;
         rest = latest true (sym r.is ∙ y)
             ∙ alike-reversible o (past es (k - 1)) _ _
-            (alike-reverted_in d p.long (change_of e) (change_low e.kind e.field e.position (r.low y).0));
+            (alike-reverted_in d p.long (change_of e) (within-low (change_of e) (r.low y)));
       }
 
   pub reversing_end : (d : Decisions) (k : ℕ) → k ≡ 0 → Reversing o start es count d k

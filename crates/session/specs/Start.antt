@@ -20,7 +20,9 @@ use Rattle.accepted.specs.Lists.{tabulate, tabulate-pad}
 use Rattle.accepted.specs.Parts.{fields_of}
 use Rattle.accepted.specs.Facts.{facts}
 use Rattle.accepted.specs.Outline.{outline_of, full-past}
-use Rattle.ledger.specs.Ledger.{Decision, choice, strike, settings, other_chosen, starts, start_set}
+use Rattle.ledger.specs.declared.Decision.{Decision}
+use Rattle.ledger.specs.declared.Decision.TheVariants.{Choice, Strike}
+use Rattle.ledger.specs.Ledger.{settings, other_chosen, starts, start_set}
 use Rattle.session.specs.declared.decisions.Decisions.{Decisions}
 use Rattle.session.specs.View.{decisions_of, in_force_of}
 
@@ -114,8 +116,8 @@ start_masks o ds = tabulate most_fields (λ f. keep_bits (settings o f) (starts 
 mask_is : (o : Outline) (d : Decisions) (f : ℕ)
     → start_mask (settings o f) (get_or d.choices f 0) (get_or d.strikes f 0) ≡ keep_bits (settings o f) (starts o (decisions_of d) f)
 unfolding start_mask starts other_chosen has
-mask_is o d f = keep_bits_cong (settings o f) _ _ (λ v. ap₂ (λ (a b : Bool). not a && not b) (sym (in_force_of d (strike f v)))
-    (ap (some_bit (settings o f)) (fun_ext (λ u. ap (λ (b : Bool). b && not (eqb u v)) (sym (in_force_of d (choice f u)))))))
+mask_is o d f = keep_bits_cong (settings o f) _ _ (λ v. ap₂ (λ (a b : Bool). not a && not b) (sym (in_force_of d (Strike f v)))
+    (ap (some_bit (settings o f)) (fun_ext (λ u. ap (λ (b : Bool). b && not (eqb u v)) (sym (in_force_of d (Choice f u)))))))
 
 -- the mask of each field, from masks
 abbrev pub mask_from : (full choices strikes : List ℕ) → ℕ → ℕ

@@ -13,8 +13,10 @@ use Rattle.masks.specs.Bits.{bit, bit-zero, bit-suc}
 use Rattle.masks.proofs.Bits.{bit_of-zero}
 use Rattle.masks.specs.Sets.{has}
 use Rattle.masks.specs.Pick.{pick}
+use Rattle.ledger.specs.declared.Decision.{Decision}
+use Rattle.ledger.specs.declared.Decision.TheVariants.{Choice, Strike}
 use Rattle.ledger.specs.declared.Event.{Event}
-use Rattle.ledger.specs.Ledger.{Decision, choice, strike, Ledger, same_decision, in_force}
+use Rattle.ledger.specs.Ledger.{Ledger, same_decision, in_force}
 use Rattle.ledger.proofs.Laws.{decision-at, decision-self}
 use Rattle.session.specs.declared.Session.{Session}
 use Rattle.session.specs.declared.decisions.Decisions.{Decisions}
@@ -33,7 +35,7 @@ listed make [] = []
 listed make (m ∷ ms) = list_in (make 0) m m ++ listed (λ f. make (suc f)) ms
 
 unfoldable pub decisions_of : Decisions → List Decision
-decisions_of d = listed choice d.choices ++ listed strike d.strikes
+decisions_of d = listed Choice d.choices ++ listed Strike d.strikes
 
 -- what the place of an event past the end would hold
 abbrev pub no_event : Event
@@ -162,12 +164,12 @@ pub in_force_of : (d : Decisions) (e : Decision) → in_force (decisions_of d) e
 unfolding decisions_of
 in_force_of d e = iff_eq _ _
     (λ h. ⊎_elim
-    (λ q. let x = listed_at choice d.choices e q in ap (held_in d) (sym (decision-at (choice x.0 x.1) e x.3)) ∙ x.2)
-    (λ q. let x = listed_at strike d.strikes e q in ap (held_in d) (sym (decision-at (strike x.0 x.1) e x.3)) ∙ x.2)
-    (or_at (in_force (listed choice d.choices) e) _ (sym (in_force_++ (listed choice d.choices) (listed strike d.strikes) e) ∙ h)))
-    (λ h. in_force_++ (listed choice d.choices) (listed strike d.strikes) e ∙ back e h)
+    (λ q. let x = listed_at Choice d.choices e q in ap (held_in d) (sym (decision-at (Choice x.0 x.1) e x.3)) ∙ x.2)
+    (λ q. let x = listed_at Strike d.strikes e q in ap (held_in d) (sym (decision-at (Strike x.0 x.1) e x.3)) ∙ x.2)
+    (or_at (in_force (listed Choice d.choices) e) _ (sym (in_force_++ (listed Choice d.choices) (listed Strike d.strikes) e) ∙ h)))
+    (λ h. in_force_++ (listed Choice d.choices) (listed Strike d.strikes) e ∙ back e h)
   where
-    back : (e : Decision) → held_in d e ≡ true → (in_force (listed choice d.choices) e || in_force (listed strike d.strikes) e) ≡ true
-    back (choice f v) h = or_l _ _ (listed_by choice d.choices (choice f v) f v h (decision-self (choice f v)))
-    back (strike f v) h = or_r (in_force (listed choice d.choices) (strike f v)) _
-        (listed_by strike d.strikes (strike f v) f v h (decision-self (strike f v)))
+    back : (e : Decision) → held_in d e ≡ true → (in_force (listed Choice d.choices) e || in_force (listed Strike d.strikes) e) ≡ true
+    back (Choice f v) h = or_l _ _ (listed_by Choice d.choices (Choice f v) f v h (decision-self (Choice f v)))
+    back (Strike f v) h = or_r (in_force (listed Choice d.choices) (Strike f v)) _
+        (listed_by Strike d.strikes (Strike f v) f v h (decision-self (Strike f v)))

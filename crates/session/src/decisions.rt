@@ -1,30 +1,17 @@
 // The decisions in force, as masks.
 ghost use Rattle.std.specs.Prelude.{◌≡◌, true, ◌<◌};
-ghost use Rattle.masks.specs.Bits.{bit};
-ghost use Rattle.limits.specs.Limits.{most_fields};
-ghost use Rattle.ledger.specs.Ledger.{change_of};
-ghost use Rattle.session.specs.Decisions.{decision_of, held_in, gained, lost, applied_in, reverted_in, Found};
+ghost use Rattle.session.specs.Decisions.{Found, Within, WithinChange, no_decisions, held_in, gained, lost, applied_in, reverted_in};
 
-use ledger::{CHOOSE, Event, STRIKE, WITHDRAW_CHOICE, WITHDRAW_STRIKE};
+use ledger::{Change, Decision};
 use limits::FIELDS;
-use masks::{clear_bit, has_bit, one_bit};
+use masks::{clear_bit, has_position, one_bit};
 
 // For each field the chosen and the struck positions.
 #[repr(C)]
-#[derive(Clone, Copy)]
+#[derive(Clone, Copy, Debug, PartialEq, Eq)]
 pub struct Decisions {
     pub choices: [u32; FIELDS],
     pub strikes: [u32; FIELDS],
-}
-
-// Whether v is a position of x.
-fn bit_of(x: u32, v: u32) -> bool
-    ensures { (result ≡ bit x v) × (result ≡ true → v < 32) }
-{
-    if 32 <= v {
-        return false;
-    }
-    has_bit(x, v as usize)
 }
 
 // Whether a set of masks has a position of a field.
@@ -32,82 +19,82 @@ pub fn in_masks(masks: [u32; FIELDS], field: u32, position: u32) -> bool
     ensures { Found masks field position result }
 {
     let f = field as usize;
-    if FIELDS <= f {
-        return false;
-    }
-    bit_of(masks[f], position)
+    f < FIELDS && has_position(masks[f], position)
 }
 
-// Whether a choice, or a strike, is in force.
-pub fn held(d: Decisions, strike: bool, field: u32, position: u32) -> bool
-    ensures { result ≡ held_in d (decision_of strike field position) }
-{
-    let choices = d.choices;
-    let strikes = d.strikes;
-    if strike {
-        return in_masks(strikes, field, position);
+impl Decisions {
+    pub fn none() -> Decisions
+        ensures { result ≡ no_decisions }
+    {
+        Decisions {
+            choices: [0u32; FIELDS],
+            strikes: [0u32; FIELDS],
+        }
     }
-    in_masks(choices, field, position)
-}
 
-// The decisions with one more.
-fn add(d: Decisions, strike: bool, f: usize, v: usize) -> Decisions
-    requires { (f < most_fields) × (v < 32) }
-    ensures { result ≡ gained d (decision_of strike f v) }
-{
-    let mut r = d;
-    if strike {
-        r.strikes[f] = r.strikes[f] | one_bit(v);
-        return r;
+    // Whether a decision is in force.
+    pub fn holds(self, x: Decision) -> bool
+        ensures { result ≡ held_in self x }
+    {
+        match x {
+            Decision::Choice(f, v) => in_masks(self.choices, f, v),
+            Decision::Strike(f, v) => in_masks(self.strikes, f, v),
+        }
     }
-    r.choices[f] = r.choices[f] | one_bit(v);
-    r
-}
 
-// The decisions with one less.
-fn withdraw(d: Decisions, strike: bool, f: usize, v: usize) -> Decisions
-    requires { (f < most_fields) × (v < 32) }
-    ensures { result ≡ lost d (decision_of strike f v) }
-{
-    let mut r = d;
-    if strike {
-        r.strikes[f] = clear_bit(r.strikes[f], v);
-        return r;
+    // The decisions with one more.
+    fn with(self, x: Decision) -> Decisions
+        requires { Within x }
+        ensures { result ≡ gained self x }
+    {
+        let mut r = self;
+        match x {
+            Decision::Choice(f, v) => r.choices[f as usize] |= one_bit(v as usize),
+            Decision::Strike(f, v) => r.strikes[f as usize] |= one_bit(v as usize),
+        }
+        r
     }
-    r.choices[f] = clear_bit(r.choices[f], v);
-    r
-}
 
-// The decisions after an event.
-pub fn apply(d: Decisions, e: Event) -> Decisions
-    requires { (e.field < most_fields) × (e.position < 32) }
-    ensures { result ≡ applied_in (change_of e) d }
-{
-    let kind = e.kind;
-    let f = e.field as usize;
-    let v = e.position as usize;
-    match kind {
-        CHOOSE => add(d, false, f, v),
-        STRIKE => add(d, true, f, v),
-        WITHDRAW_CHOICE => withdraw(d, false, f, v),
-        WITHDRAW_STRIKE => withdraw(d, true, f, v),
-        _ => d,
+    // The decisions with one less.
+    fn without(self, x: Decision) -> Decisions
+        requires { Within x }
+        ensures { result ≡ lost self x }
+    {
+        let mut r = self;
+        match x {
+            Decision::Choice(f, v) => r.choices[f as usize] = clear_bit(
+                r.choices[f as usize],
+                v as usize,
+            ),
+            Decision::Strike(f, v) => r.strikes[f as usize] = clear_bit(
+                r.strikes[f as usize],
+                v as usize,
+            ),
+        }
+        r
     }
-}
 
-// The decisions before an event: an added decision goes, a withdrawn one returns.
-pub fn revert(d: Decisions, e: Event) -> Decisions
-    requires { (e.field < most_fields) × (e.position < 32) }
-    ensures { result ≡ reverted_in (change_of e) d }
-{
-    let kind = e.kind;
-    let f = e.field as usize;
-    let v = e.position as usize;
-    match kind {
-        CHOOSE => withdraw(d, false, f, v),
-        STRIKE => withdraw(d, true, f, v),
-        WITHDRAW_CHOICE => add(d, false, f, v),
-        WITHDRAW_STRIKE => add(d, true, f, v),
-        _ => d,
+    // The decisions after a change.
+    pub fn applied(self, k: Change) -> Decisions
+        requires { WithinChange k }
+        ensures { result ≡ applied_in k self }
+    {
+        match k {
+            Change::Adds(x) => self.with(x),
+            Change::Withdraws(x) => self.without(x),
+            Change::Neither => self,
+        }
+    }
+
+    // The decisions before a change: an added decision goes, a withdrawn one returns.
+    pub fn reverted(self, k: Change) -> Decisions
+        requires { WithinChange k }
+        ensures { result ≡ reverted_in k self }
+    {
+        match k {
+            Change::Adds(x) => self.without(x),
+            Change::Withdraws(x) => self.with(x),
+            Change::Neither => self,
+        }
     }
 }

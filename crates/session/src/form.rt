@@ -1,25 +1,25 @@
 // Whether a session is malformed: a decision is not on the sheet, the count exceeds 64, the events cannot be reversed, or open would refuse
 // its mask of selected fields.
-ghost use Rattle.std.specs.Prelude.{◌≡◌, true, ◌≤◌, ◌<◌, eqb};
+ghost use Rattle.std.specs.Prelude.{◌≡◌, true, ◌≤◌, eqb};
 ghost use Rattle.limits.specs.Limits.{most_fields, most_events};
 ghost use Rattle.ledger.specs.Ledger.{reversible, no_selection, malformed};
-ghost use Rattle.session.specs.Decisions.{Found};
 ghost use Rattle.session.specs.View.{decisions_of, past, view};
-ghost use Rattle.session.specs.Form.{strangers, masks_on_sheet, CanRevert};
+ghost use Rattle.session.specs.Form.{strangers, masks_on_sheet, OnSheet, CanRevert};
 
 use super::Session;
-use super::decisions::{Decisions, held, in_masks, revert};
+use super::decisions::{Decisions, in_masks};
 use accepted::outline::Outline;
-use ledger::{CHOOSE, Event, STRIKE, WITHDRAW_CHOICE, WITHDRAW_STRIKE};
+use ledger::{Change, Decision, Event};
 use limits::{EVENTS, FIELDS, MOST_EVENTS};
 use masks::one_bit;
 
-// Whether a field and a position are on the sheet.
-pub fn on_sheet(outline: Outline, field: u32, position: u32) -> bool
-    ensures { Found outline.full field position result }
+// Whether a decision is on the sheet.
+pub fn on_sheet(outline: Outline, x: Decision) -> bool
+    ensures { OnSheet outline x result }
 {
-    let full = outline.full;
-    in_masks(full, field, position)
+    match x {
+        Decision::Choice(f, v) | Decision::Strike(f, v) => in_masks(outline.full, f, v),
+    }
 }
 
 // Whether every position of m is one of the field's.
@@ -33,31 +33,22 @@ fn within(m: u32, all: u32) -> bool
 fn masks_on_sheet(outline: Outline, masks: [u32; FIELDS]) -> bool
     ensures { result ≡ masks_on_sheet outline.full masks }
 {
-    let full = outline.full;
-    let mut f: usize = 0;
-    while f < FIELDS {
-        if !within(masks[f], full[f]) {
+    for f in 0..FIELDS {
+        if !within(masks[f], outline.full[f]) {
             return false;
         }
-        f += 1;
     }
     true
 }
 
-// Whether an event can be reversed: its decision is on the sheet, and an addition is in force, a withdrawal is not.
-fn can_revert(outline: Outline, d: Decisions, e: Event) -> bool
-    ensures { CanRevert outline d e result }
+// Whether a change can be reversed: its decision is on the sheet, and an addition is in force, a withdrawal is not.
+fn can_revert(outline: Outline, d: Decisions, k: Change) -> bool
+    ensures { CanRevert outline d k result }
 {
-    let kind = e.kind;
-    if !on_sheet(outline, e.field, e.position) {
-        return false;
-    }
-    match kind {
-        CHOOSE => held(d, false, e.field, e.position),
-        STRIKE => held(d, true, e.field, e.position),
-        WITHDRAW_CHOICE => !held(d, false, e.field, e.position),
-        WITHDRAW_STRIKE => !held(d, true, e.field, e.position),
-        _ => false,
+    match k {
+        Change::Adds(x) => on_sheet(outline, x) && d.holds(x),
+        Change::Withdraws(x) => on_sheet(outline, x) && !d.holds(x),
+        Change::Neither => false,
     }
 }
 
@@ -72,15 +63,12 @@ fn events_reversible(
     ensures { result ≡ reversible outline (past events count) (decisions_of start) }
 {
     let mut d = start;
-    let mut k = count as usize;
-    while 0 < k {
-        k -= 1;
-        let e = events[k];
-        if !can_revert(outline, d, e) {
+    for i in (0..count as usize).rev() {
+        let k = events[i].change();
+        if !can_revert(outline, d, k) {
             return false;
         }
-        let before = revert(d, e);
-        d = before;
+        d = d.reverted(k);
     }
     true
 }

@@ -1,7 +1,7 @@
 // The session: what the control room holds between calls, whether it is malformed, its start set, and the session after a call.
 #![tactic(auto)]
 
-pub mod decisions; // decisions.rt: a decision held, added, withdrawn; an event made and reversed
+pub mod decisions; // decisions.rt: a decision held, added, withdrawn; a change made and reversed
 pub mod form; // form.rt: whether a session is malformed
 pub mod start; // start.rt: the start set
 pub mod steps; // steps.rt: the session after a call
@@ -11,11 +11,11 @@ ghost use Rattle.session.specs.Steps.{fresh_session};
 
 use decisions::Decisions;
 use ledger::Event;
-use limits::{EVENTS, FIELDS};
+use limits::EVENTS;
 
 // The decisions in force; events, of which the first `count` have happened, the oldest first; the mask of the selected fields. No offers.
 #[repr(C)]
-#[derive(Clone, Copy)]
+#[derive(Clone, Copy, Debug, PartialEq, Eq)]
 pub struct Session {
     pub decisions: Decisions,
     pub events: [Event; EVENTS],
@@ -23,29 +23,17 @@ pub struct Session {
     pub selected: u32,
 }
 
-// What a call gives back: its number, and the session after it.
-#[derive(Clone, Copy)]
-pub struct Outcome {
-    pub number: u32,
-    pub session: Session,
-}
-
 // No decisions, no events, no selected fields.
 pub fn fresh() -> Session
     ensures { result ≡ fresh_session }
 {
-    let none = [0u32; FIELDS];
-    let decisions = Decisions {
-        choices: none,
-        strikes: none,
-    };
     let event = Event {
         kind: 0,
         field: 0,
         position: 0,
     };
     Session {
-        decisions,
+        decisions: Decisions::none(),
         events: [event; EVENTS],
         count: 0,
         selected: 0,

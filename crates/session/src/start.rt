@@ -28,14 +28,9 @@ fn start_mask(all: u32, choices: u32, strikes: u32) -> u32
 pub fn start(outline: Outline, d: Decisions) -> [u32; FIELDS]
     ensures { result ≡ start_masks outline (decisions_of d) }
 {
-    let full = outline.full;
-    let choices = d.choices;
-    let strikes = d.strikes;
     let mut m = [0u32; FIELDS];
-    let mut f: usize = 0;
-    while f < FIELDS {
-        m[f] = start_mask(full[f], choices[f], strikes[f]);
-        f += 1;
+    for f in 0..FIELDS {
+        m[f] = start_mask(outline.full[f], d.choices[f], d.strikes[f]);
     }
     m
 }

@@ -3,18 +3,18 @@ ghost use Rattle.std.specs.Prelude.{◌≡◌};
 ghost use Rattle.session.specs.Steps.{begun, recorded, undone, stepped, RecordAsks, UndoAsks, StepAsks};
 
 use super::Session;
-use super::decisions::{Decisions, apply, revert};
+use super::decisions::Decisions;
 use ledger::{Call, Event};
-use limits::FIELDS;
 
 // The session with other decisions and no events. All places of the events stay as they are.
-fn begin(session: Session, d: Decisions) -> Session
-    ensures { result ≡ begun session d }
+fn begin(session: Session, decisions: Decisions) -> Session
+    ensures { result ≡ begun session decisions }
 {
-    let mut next = session;
-    next.decisions = d;
-    next.count = 0;
-    next
+    Session {
+        decisions,
+        count: 0,
+        ..session
+    }
 }
 
 // The session after an event, which is added.
@@ -22,12 +22,13 @@ fn record(session: Session, e: Event) -> Session
     requires { RecordAsks e session }
     ensures { result ≡ recorded session e }
 {
-    let d = apply(session.decisions, e);
     let count = session.count;
-    let mut next = session;
-    next.decisions = d;
+    let mut next = Session {
+        decisions: session.decisions.applied(e.change()),
+        count: count + 1,
+        ..session
+    };
     next.events[count as usize] = e;
-    next.count = count + 1;
     next
 }
 
@@ -36,13 +37,13 @@ fn undo(session: Session) -> Session
     requires { UndoAsks session }
     ensures { result ≡ undone session }
 {
-    let events = session.events;
     let count = session.count - 1;
-    let d = revert(session.decisions, events[count as usize]);
-    let mut next = session;
-    next.decisions = d;
-    next.count = count;
-    next
+    let k = session.events[count as usize].change();
+    Session {
+        decisions: session.decisions.reverted(k),
+        count,
+        ..session
+    }
 }
 
 // The session after a call.
@@ -51,22 +52,13 @@ pub fn step(session: Session, call: Call) -> Session
     ensures { result ≡ stepped call session }
 {
     match call {
-        Call::Open(selected) => {
-            let none = [0u32; FIELDS];
-            let d = Decisions {
-                choices: none,
-                strikes: none,
-            };
-            let mut next = begin(session, d);
-            next.selected = selected;
-            next
-        }
+        Call::Open(selected) => Session {
+            selected,
+            ..begin(session, Decisions::none())
+        },
         Call::Show => session,
         Call::Decide(e) => record(session, e),
         Call::Back => undo(session),
-        Call::CoilOn => {
-            let d = session.decisions;
-            begin(session, d)
-        }
+        Call::CoilOn => begin(session, session.decisions),
     }
 }

@@ -1,11 +1,11 @@
 -- The items of bytes, one by one. Assumes nothing.
-use Rattle.std.specs.Prelude.{◌≡◌, refl, Bool, true, false, List, [], ◌∷◌, ℕ, zero, suc, ◌-◌, ◌≤◌, ◌<◌, ltb, length}
+use Rattle.std.specs.Prelude.{◌≡◌, refl, Bool, true, false, List, [], ◌∷◌, ℕ, zero, suc, ◌-◌, ◌≤◌, ◌<◌, ltb, length, Result, Ok, Err}
 use Rattle.std.proofs.Common.{sym, ap, ◌∙◌, sub-one, arith, lt-ltb, le-ltb, ltb-true, ltb-false}
 use Rattle.masks.specs.Pick.{pick_true, pick-false}
-use Rattle.groups.specs.Groups.{number_at, number-next}
+use Rattle.limits.specs.declared.refusals.Refusal.{Refusal}
+use Rattle.groups.specs.Groups.{number_at, number-next, found}
 use Rattle.groups.specs.declared.groups.Number.{Number}
-use Rattle.groups.specs.declared.groups.Number.TheVariants.{Value, Ended, IllFormed}
-use Rattle.sheet.specs.Sources.{Item, num, cut, ill, items_by, items, items_from}
+use Rattle.sheet.specs.Sources.{Item, num, fault, items_by, items, items_from}
 
 items_end : (most : ℕ) (s : List ℕ) (at : ℕ) → length s ≤ at → items most s at ≡ []
 unfolding items
@@ -22,13 +22,12 @@ items-enough : (f g : ℕ) (s : List ℕ) (at : ℕ) → length s - at ≤ f →
 items-enough zero g s at p q = items_end zero s at (omega arith) ∙ sym (items_end g s at (omega arith))
 items-enough (suc f) g s at p q = go (λ next. items-enough f (g - 1) s next) (ltb at (length s)) refl
   where
-    by : (r : Number) → at < length s → number_at s at ≡ r
+    by : (r : Result Number Refusal) → at < length s → number_at s at ≡ r
         → ((next : ℕ) → length s - next ≤ f → length s - next ≤ g - 1 → items f s next ≡ items (g - 1) s next)
         → items_by r (items f s) ≡ items_by r (items (g - 1) s)
-    by (Value x next) h e ih =
-        let b = number-next s at x next h e in ap (λ (is : List Item). num x ∷ is) (ih next (omega arith) (omega arith))
-    by Ended h e ih = refl
-    by IllFormed h e ih = refl
+    by (Ok n) h e ih =
+        let b = number-next s at n.value n.next h e in ap (λ (is : List Item). num n.value ∷ is) (ih n.next (omega arith) (omega arith))
+    by (Err r) h e ih = refl
 
     go : ((next : ℕ) → length s - next ≤ f → length s - next ≤ g - 1 → items f s next ≡ items (g - 1) s next)
         → (t : Bool) → ltb at (length s) ≡ t → items (suc f) s at ≡ items g s at
@@ -43,23 +42,19 @@ module _ (s : List ℕ) (at : ℕ) where
   pub from_end : length s ≤ at → items_from s at ≡ []
   from_end h = items_end _ s at h
 
-  pub from-num : (x next : ℕ) → at < length s → number_at s at ≡ Value x next → items_from s at ≡ num x ∷ items_from s next
+  pub from-num : (x next : ℕ) → at < length s → number_at s at ≡ found x next → items_from s at ≡ num x ∷ items_from s next
   from-num x next h e =
       let b = number-next s at x next h e in
       items_at (length s - at) s at (omega arith) h
       ∙ rw e (ap (λ (is : List Item). num x ∷ is) (items-enough (length s - at - 1) (length s - next) s next (omega arith) (omega arith)))
 
-  pub from_cut : at < length s → number_at s at ≡ Ended → items_from s at ≡ cut ∷ []
-  from_cut h e = items_at (length s - at) s at (omega arith) h ∙ rw e
-
-  pub from-ill : at < length s → number_at s at ≡ IllFormed → items_from s at ≡ ill ∷ []
-  from-ill h e = items_at (length s - at) s at (omega arith) h ∙ rw e
+  pub from-fault : (r : Refusal) → at < length s → number_at s at ≡ Err r → items_from s at ≡ fault r ∷ []
+  from-fault r h e = items_at (length s - at) s at (omega arith) h ∙ rw e
 
   -- some item stands before the end
   pub from_some : at < length s → 0 < length (items_from s at)
   from_some h = by (number_at s at) refl
     where
-      by : (r : Number) → number_at s at ≡ r → 0 < length (items_from s at)
-      by (Value x next) e = omega (arith, ap length (from-num x next h e))
-      by Ended e = omega (arith, ap length (from_cut h e))
-      by IllFormed e = omega (arith, ap length (from-ill h e))
+      by : (r : Result Number Refusal) → number_at s at ≡ r → 0 < length (items_from s at)
+      by (Ok n) e = omega (arith, ap length (from-num n.value n.next h e))
+      by (Err r) e = omega (arith, ap length (from-fault r h e))

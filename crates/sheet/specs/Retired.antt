@@ -1,5 +1,5 @@
 -- The turns of the loop that checks a list for the writer, which refuses the retired kind too. Assumes nothing.
-use Rattle.std.specs.Prelude.{◌≡◌, refl, Bool, false, ◌||◌, ℕ, ◌+◌, ◌<◌, ◌≤◌, length, drop, get_or}
+use Rattle.std.specs.Prelude.{◌≡◌, refl, Bool, false, ◌||◌, ℕ, ◌+◌, ◌<◌, ◌≤◌, length, drop, get_or, Result, Ok, Err}
 use Rattle.std.proofs.Math.Path.{sym, ap₂}
 use Rattle.std.proofs.Common.{ap, ◌∙◌, arith, drop_of_length-le}
 use Rattle.std.proofs.Math.Bool.{true}
@@ -7,13 +7,17 @@ use mathlib.Core.List.{List, [], ◌∷◌}
 use Rattle.masks.specs.Pick.{pick, pick_true, pick-false}
 use Rattle.masks.specs.Tests.{or_l}
 use Rattle.limits.specs.Refusals.{RETIRED}
+use Rattle.limits.specs.declared.refusals.Refusal.{Refusal}
+use Rattle.limits.specs.declared.refusals.Refusal.TheVariants.{Surplus, Retired}
 use Rattle.groups.specs.Groups.{encode}
 use Rattle.grammar.specs.Grammar.{advance, at_end}
 use Rattle.grammar.specs.declared.grammar.Expected.{Expected}
 use Rattle.grammar.specs.declared.grammar.State.{State}
-use Rattle.grammar.specs.declared.grammar.State.TheVariants.{Wants, Complete, OutOfRange, OutOfOrder}
-use Rattle.sheet.specs.Sources.{meets, of_numbers, bytes_of, is_retired, retired_from, retired, answered, checked, checked_list}
-use Rattle.sheet.specs.Progress.{Going, going_on, going_end, going-stays, list_next, items-next, bytes_next, bytes_end}
+use Rattle.grammar.specs.declared.grammar.State.TheVariants.{Wants, Complete}
+use Rattle.sheet.specs.Sources.{of_numbers, bytes_of, is_retired, retired_from, retired_after, retired, answered, answer_of, checked}
+use Rattle.sheet.specs.Sources.{checked_list}
+use Rattle.sheet.specs.Progress.{Going, going_on, going_end, going-cut, going-not, going-surplus, list_next, items-next}
+use Rattle.sheet.specs.Progress.{bytes_next, bytes_end}
 use Rattle.sheet.specs.declared.answer.Answer.{Answer}
 
 -- ---- one number
@@ -25,21 +29,20 @@ unfolding retired_from
 retired-met n e ds x xs h = or_l (is_retired e x) _ h
 
 pub retired-on : (n : ℕ) (e : Expected) (ds : List ℕ) (x : ℕ) (xs : List ℕ) → is_retired e x ≡ false
-    → retired_from (Wants n e) ds (x ∷ xs) ≡ retired_from (advance n e ds x).0 (advance n e ds x).1 xs
+    → retired_from (Wants n e) ds (x ∷ xs) ≡ retired_after (advance n e ds x).0 (advance n e ds x).1 xs
 unfolding retired_from
-retired-on n e ds x xs h = ap (λ (b : Bool). b || retired_from (advance n e ds x).0 (advance n e ds x).1 xs) h
+retired-on n e ds x xs h = ap (λ (b : Bool). b || retired_after (advance n e ds x).0 (advance n e ds x).1 xs) h
 
 -- no number
 retired-none : (st : State) (ds : List ℕ) → retired_from st ds [] ≡ false
 unfolding retired_from
 retired-none st ds = refl
 
--- a state that expects no number
-pub retired-stays : (ds xs : List ℕ) → (retired_from Complete ds xs ≡ false) × (retired_from OutOfRange ds xs ≡ false)
-    × (retired_from OutOfOrder ds xs ≡ false)
+-- after the last triple
+pub retired-surplus : (ds xs : List ℕ) → retired_from Complete ds xs ≡ false
 unfolding retired_from
-retired-stays ds [] = (refl, refl, refl)
-retired-stays ds (x ∷ xs) = (refl, refl, refl)
+retired-surplus ds [] = refl
+retired-surplus ds (x ∷ xs) = refl
 
 -- ---- a turn
 
@@ -53,20 +56,32 @@ unretired : (xs : List ℕ) {a : Answer} → retired xs ≡ false → a ≡ chec
 unretired xs h e = e ∙ ap (λ (k : ℕ). answered k (length (bytes_of xs))) (sym (pick-false (retired xs) RETIRED _ h))
 
 module _ {st : State} {ds xs : List ℕ} {k count : ℕ} where
-  -- a number that is expected and no retired kind
-  pub passing-on : (n : ℕ) (e : Expected) → st ≡ Wants n e → k < length xs → is_retired e (get_or xs k 0) ≡ false → Passing st ds xs k count
-      → let x = get_or xs k 0 in Passing (advance n e ds x).0 (advance n e ds x).1 xs (k + 1) (count + length (encode x))
-  passing-on n e p h q g = record {
-    going = going_on n e (get_or xs k 0) (of_numbers (drop (k + 1) xs)) (encode (get_or xs k 0)) (bytes_of (drop (k + 1) xs)) p
+  -- a number that is expected, is no retired kind, and leads on
+  pub passing-on : (n : ℕ) (e : Expected) (t : State) → st ≡ Wants n e → k < length xs → is_retired e (get_or xs k 0) ≡ false
+      → (advance n e ds (get_or xs k 0)).0 ≡ Ok t → Passing st ds xs k count
+      → let x = get_or xs k 0 in Passing t (advance n e ds x).1 xs (k + 1) (count + length (encode x))
+  passing-on n e t p h q a g = record {
+    going = going_on n e (get_or xs k 0) t (of_numbers (drop (k + 1) xs)) (encode (get_or xs k 0)) (bytes_of (drop (k + 1) xs)) p a
         (items-next xs k h) (bytes_next xs k h) g.going;
     meets-retired =
-        sym (retired-on n e ds (get_or xs k 0) (drop (k + 1) xs) q)
+        sym (ap (λ (r : Result State Refusal). retired_after r (advance n e ds (get_or xs k 0)).1 (drop (k + 1) xs)) a)
+        ∙ sym (retired-on n e ds (get_or xs k 0) (drop (k + 1) xs) q)
         ∙ sym (ap₂ (λ (s : State) (l : List ℕ). retired_from s ds l) p (list_next xs k h)) ∙ g.meets-retired;
   }
 
+  -- a number that is expected, is no retired kind, and is refused
+  pub passing-not : (n : ℕ) (e : Expected) (r : Refusal) → st ≡ Wants n e → k < length xs → is_retired e (get_or xs k 0) ≡ false
+      → (advance n e ds (get_or xs k 0)).0 ≡ Err r → Passing st ds xs k count → answer_of (Err r) ≡ checked_list xs
+  passing-not n e r p h q a g =
+      unretired xs
+      (sym g.meets-retired ∙ ap₂ (λ (s : State) (l : List ℕ). retired_from s ds l) p (list_next xs k h)
+      ∙ retired-on n e ds (get_or xs k 0) (drop (k + 1) xs) q
+      ∙ ap (λ (r : Result State Refusal). retired_after r (advance n e ds (get_or xs k 0)).1 (drop (k + 1) xs)) a)
+      (going-not n e (get_or xs k 0) r (of_numbers (drop (k + 1) xs)) p a (items-next xs k h) g.going)
+
   -- the retired kind
   pub passing-retired : (n : ℕ) (e : Expected) → st ≡ Wants n e → k < length xs → is_retired e (get_or xs k 0) ≡ true
-      → Passing st ds xs k count → answered RETIRED 0 ≡ checked_list xs
+      → Passing st ds xs k count → answer_of (Err Retired) ≡ checked_list xs
   unfolding pick
   passing-retired n e p h q g =
       let z : retired xs ≡ true =
@@ -74,15 +89,19 @@ module _ {st : State} {ds xs : List ℕ} {k count : ℕ} where
       ∙ retired-met n e ds (get_or xs k 0) (drop (k + 1) xs) q in
       sym (ap (λ (i : ℕ). answered i (length (bytes_of xs))) (pick_true (retired xs) RETIRED _ z))
 
-  -- a state that expects no number, where one follows
-  pub passing-stays : (i : ℕ) (q : State) → st ≡ q → 0 < i → ((f : ℕ → Expected → ℕ) → meets q f ≡ i)
-      → ((l : List ℕ) → retired_from q ds l ≡ false) → k < length xs → Passing st ds xs k count → answered i 0 ≡ checked_list xs
-  passing-stays i q s p e r h g =
-      unretired xs (sym g.meets-retired ∙ ap (λ (t : State). retired_from t ds (drop k xs)) s ∙ r (drop k xs))
-      (going-stays i p (λ f. ap (λ (t : State). meets t f) s ∙ e f) (omega (arith, ap length (items-next xs k h))) g.going)
+  -- after the last triple, where a number follows
+  pub passing-surplus : st ≡ Complete → k < length xs → Passing st ds xs k count → answer_of (Err Surplus) ≡ checked_list xs
+  passing-surplus p h g =
+      unretired xs (sym g.meets-retired ∙ ap (λ (t : State). retired_from t ds (drop k xs)) p ∙ retired-surplus ds (drop k xs))
+      (going-surplus p (omega (arith, ap length (items-next xs k h))) g.going)
 
   -- the end
-  pub passing_end : length xs ≤ k → Passing st ds xs k count → answered (at_end st) count ≡ checked_list xs
-  passing_end h g =
-      unretired xs (sym g.meets-retired ∙ ap (retired_from st ds) (drop_of_length-le xs h) ∙ retired-none st ds)
-      (going_end (ap of_numbers (drop_of_length-le xs h)) (bytes_end xs k h) g.going)
+  ended : length xs ≤ k → Passing st ds xs k count → retired xs ≡ false
+  ended h g = sym g.meets-retired ∙ ap (retired_from st ds) (drop_of_length-le xs h) ∙ retired-none st ds
+
+  pub passing_end : length xs ≤ k → at_end st ≡ Ok tt → Passing st ds xs k count → answer_of (Ok count) ≡ checked_list xs
+  passing_end h a g =
+      unretired xs (ended h g) (going_end (ap of_numbers (drop_of_length-le xs h)) (bytes_end xs k h) a g.going)
+
+  pub passing-cut : (r : Refusal) → length xs ≤ k → at_end st ≡ Err r → Passing st ds xs k count → answer_of (Err r) ≡ checked_list xs
+  passing-cut r h a g = unretired xs (ended h g) (going-cut r (ap of_numbers (drop_of_length-le xs h)) a g.going)

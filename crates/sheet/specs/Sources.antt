@@ -1,18 +1,20 @@
 -- A source of numbers, bytes or a list: 0 where it is a sheet, and else the number of its refusal; and what reading and writing give.
 -- Assumes nothing.
 use Rattle.std.specs.Prelude.{◌≡◌, Bool, false, ◌||◌, List, [], ◌∷◌, ◌++◌, map, ℕ, zero, suc, ◌-◌, ltb, leb, eqb, length, drop}
+use Rattle.std.specs.Prelude.{Result, Ok, Err}
 use Rattle.masks.specs.Pick.{pick}
 use Rattle.groups.specs.Groups.{number_at, encode}
 use Rattle.groups.specs.declared.groups.Number.{Number}
-use Rattle.groups.specs.declared.groups.Number.TheVariants.{Value, Ended, IllFormed}
 use Rattle.limits.specs.Limits.{retired_kind}
-use Rattle.limits.specs.Refusals.{ENDS_INSIDE, ILL_FORMED, OUT_OF_RANGE, OUT_OF_ORDER, SURPLUS, TOO_SHORT, RETIRED}
+use Rattle.limits.specs.Refusals.{ENDS_INSIDE, ILL_FORMED, SURPLUS, TOO_SHORT, RETIRED, number, number_of}
+use Rattle.limits.specs.declared.refusals.Refusal.{Refusal}
+use Rattle.limits.specs.declared.refusals.Refusal.TheVariants.{EndsInside}
 use Rattle.grammar.specs.Grammar.{advance, start, no_counts, at_end}
 use Rattle.grammar.specs.declared.grammar.Expected.{Expected}
 use Rattle.grammar.specs.declared.grammar.Expected.TheVariants.{Fields, Count, Setting, Reach, Rules, First, Second, Kind, Mask, Amount}
 use Rattle.grammar.specs.declared.grammar.Expected.TheVariants.{Triples, TripleFirst, TripleSecond, TripleThird, TripleAmount}
 use Rattle.grammar.specs.declared.grammar.State.{State}
-use Rattle.grammar.specs.declared.grammar.State.TheVariants.{Wants, Complete, OutOfRange, OutOfOrder}
+use Rattle.grammar.specs.declared.grammar.State.TheVariants.{Wants, Complete}
 use Rattle.sheet.specs.declared.answer.Answer.{Answer}
 
 -- What a source has: a number, bytes that end inside a number, or groups that are no number.
@@ -21,25 +23,26 @@ pub data Item : Type 0 where
   cut : Item
   ill : Item
 
--- The refusal of what stands at a place: 0 for a number.
-abbrev pub number_refusal : Number → ℕ
-number_refusal (Value x next) = 0
-number_refusal Ended = ENDS_INSIDE
-number_refusal IllFormed = ILL_FORMED
-
--- An item that follows: judged where a number is expected, SURPLUS after the last triple, and a refusal stays.
+-- An item that follows: judged where a number is expected, and SURPLUS after the last triple.
 abbrev pub meets : State → (ℕ → Expected → ℕ) → ℕ
 meets (Wants n e) judged = judged n e
 meets Complete judged = SURPLUS
-meets OutOfRange judged = OUT_OF_RANGE
-meets OutOfOrder judged = OUT_OF_ORDER
+
+-- What a number leads to: a state, from which there is more to come, or a refusal, which ends.
+abbrev pub led : {A : Type 0} → Result State Refusal → (State → A) → (Refusal → A) → A
+led (Ok st) more ends = more st
+led (Err r) more ends = ends r
 
 -- Item after item from a state on, with the counts ds of the fields so far: the first faulty one decides.
 unfoldable pub refusal_from : State → List ℕ → List Item → ℕ
-refusal_from st ds [] = at_end st
-refusal_from st ds (num x ∷ is) = meets st (λ n e. refusal_from (advance n e ds x).0 (advance n e ds x).1 is)
-refusal_from st ds (cut ∷ is) = meets st (λ n e. number_refusal Ended)
-refusal_from st ds (ill ∷ is) = meets st (λ n e. number_refusal IllFormed)
+refusal_from st ds [] = number_of (at_end st)
+refusal_from st ds (num x ∷ is) = meets st (λ n e. led (advance n e ds x).0 (λ t. refusal_from t (advance n e ds x).1 is) number)
+refusal_from st ds (cut ∷ is) = meets st (λ n e. ENDS_INSIDE)
+refusal_from st ds (ill ∷ is) = meets st (λ n e. ILL_FORMED)
+
+-- so after a number
+abbrev pub refusal_after : Result State Refusal → List ℕ → List Item → ℕ
+refusal_after r ds is = led r (λ t. refusal_from t ds is) number
 
 -- the number of a source's refusal, from its beginning on: 0 where it is a sheet
 abbrev pub refusal : List Item → ℕ
@@ -52,12 +55,17 @@ numbers (num x ∷ is) = x ∷ numbers is
 numbers (cut ∷ is) = []
 numbers (ill ∷ is) = []
 
--- the items of the bytes s from a place on, of which there are no more than `most`
-abbrev pub items_by : Number → (ℕ → List Item) → List Item
-items_by (Value x next) rest = num x ∷ rest next
-items_by Ended rest = cut ∷ []
-items_by IllFormed rest = ill ∷ []
+-- why no number stands at a place of bytes: they end inside it, or their groups are none
+abbrev pub fault : Refusal → Item
+fault EndsInside = cut
+fault r = ill
 
+-- the item that stands at a place, and those after a number
+abbrev pub items_by : Result Number Refusal → (ℕ → List Item) → List Item
+items_by (Ok n) rest = num n.value ∷ rest n.next
+items_by (Err r) rest = fault r ∷ []
+
+-- the items of the bytes s from a place on, of which there are no more than `most`
 unfoldable pub items : (most : ℕ) → List ℕ → ℕ → List Item
 items zero s at = []
 items (suc most) s at = pick (ltb at (length s)) (items_by (number_at s at) (items most s)) []
@@ -107,10 +115,13 @@ is_retired (TripleAmount triples floor) x = false
 -- Number after number from a state on: whether the retired kind is met before a fault of the grammar.
 unfoldable pub retired_from : State → List ℕ → List ℕ → Bool
 retired_from st ds [] = false
-retired_from (Wants n e) ds (x ∷ xs) = is_retired e x || retired_from (advance n e ds x).0 (advance n e ds x).1 xs
+retired_from (Wants n e) ds (x ∷ xs) =
+    is_retired e x || led (advance n e ds x).0 (λ t. retired_from t (advance n e ds x).1 xs) (λ r. false)
 retired_from Complete ds (x ∷ xs) = false
-retired_from OutOfRange ds (x ∷ xs) = false
-retired_from OutOfOrder ds (x ∷ xs) = false
+
+-- so after a number
+abbrev pub retired_after : Result State Refusal → List ℕ → List ℕ → Bool
+retired_after r ds xs = led r (λ t. retired_from t ds xs) (λ r. false)
 
 -- so from the beginning of a list on
 abbrev pub retired : List ℕ → Bool
@@ -130,6 +141,11 @@ Writable xs = writer_refusal xs ≡ 0
 -- a number, and a length that is 0 for a refusal
 abbrev pub answered : ℕ → ℕ → Answer
 answered number size = record { number = number; length = pick (eqb number 0) size 0 }
+
+-- so of a length, or of a refusal
+abbrev pub answer_of : Result ℕ Refusal → Answer
+answer_of (Ok size) = answered 0 size
+answer_of (Err r) = answered (number r) 0
 
 -- a source checked, with the length of what it would give
 abbrev pub checked : List Item → List ℕ → Answer

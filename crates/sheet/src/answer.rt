@@ -1,6 +1,9 @@
-// What a call that reads or writes a sheet answers: 0 and a length, or the number of a refusal and 0.
+// What a call that reads or writes a sheet answers to C: 0 and a length, or the number of a refusal and 0. In Rattle it is a `Result`; the
+// struct is for the C interface alone.
 ghost use Rattle.std.specs.Prelude.{◌≡◌};
-ghost use Rattle.sheet.specs.Sources.{answered};
+ghost use Rattle.sheet.specs.Sources.{answer_of};
+
+use limits::refusals::Refusal;
 
 #[repr(C)]
 #[derive(Clone, Copy)]
@@ -9,13 +12,17 @@ pub struct Answer {
     pub length: usize,
 }
 
-// The answer of a number, with a length where the number is 0.
-pub fn answered(number: u32, length: usize) -> Answer
-    ensures { result ≡ answered number length }
-{
-    if number == 0 {
-        Answer { number, length }
-    } else {
-        Answer { number, length: 0 }
+impl From<Result<usize, Refusal>> for Answer {
+    ghost from_gives = { λ found answer. answer ≡ answer_of found };
+
+    #[tactic(auto, unfolding(masks::specs::Pick::pick))]
+    fn from(found: Result<usize, Refusal>) -> Answer {
+        match found {
+            Ok(length) => Answer { number: 0, length },
+            Err(refusal) => Answer {
+                number: refusal.number(),
+                length: 0,
+            },
+        }
     }
 }

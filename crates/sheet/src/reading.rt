@@ -2,48 +2,40 @@
 ghost use Rattle.std.specs.Prelude.{◌≡◌, ◌≤◌, length, replicate};
 ghost use Rattle.std.proofs.lemmas.List.Edits.{sets};
 ghost use Rattle.limits.specs.Limits.{most_fields};
-ghost use Rattle.sheet.specs.Sources.{checked, Gives, reading, of_bytes, numbers};
+ghost use Rattle.sheet.specs.Sources.{answer_of, checked, Gives, reading, of_bytes, numbers};
 
-use super::answer::{Answer, answered};
 use grammar::grammar::{Expected, State, advance, at_end};
-use groups::groups::Number;
 use groups::reader::read_number;
 use limits::MOST_FIELDS;
-use limits::refusals::{ENDS_INSIDE, ILL_FORMED, OUT_OF_ORDER, OUT_OF_RANGE, SURPLUS, TOO_SHORT};
+use limits::refusals::Refusal;
 
 // `counts` is room for the counts of the fields.
-fn check_with(sheet: &[u8], counts: &mut [u32]) -> Answer
+fn check_with(sheet: &[u8], counts: &mut [u32]) -> Result<usize, Refusal>
     requires { counts.old ≡ replicate most_fields 0 }
-    ensures { result ≡ checked (of_bytes sheet.now) (numbers (of_bytes sheet.now)) }
+    ensures { answer_of result ≡ checked (of_bytes sheet.now) (numbers (of_bytes sheet.now)) }
 {
     let mut state = State::Wants(0, Expected::Fields);
     let mut place: usize = 0;
     let mut count: usize = 0;
+    // A number has one to four bytes, so no `for` goes from number to number.
     while place < sheet.len() {
         match state {
             State::Wants(n, expected) => {
-                let number = read_number(sheet, place);
-                match number {
-                    Number::Value(x, next) => {
-                        state = advance(n, expected, counts, x);
-                        place = next;
-                        count += 1;
-                    }
-                    Number::Ended => return answered(ENDS_INSIDE, 0),
-                    Number::IllFormed => return answered(ILL_FORMED, 0),
-                }
+                let number = read_number(sheet, place)?;
+                state = advance(n, expected, counts, number.value)?;
+                place = number.next;
+                count += 1;
             }
-            State::Complete => return answered(SURPLUS, 0),
-            State::OutOfRange => return answered(OUT_OF_RANGE, 0),
-            State::OutOfOrder => return answered(OUT_OF_ORDER, 0),
+            State::Complete => return Err(Refusal::Surplus),
         }
     }
-    answered(at_end(state), count)
+    at_end(state)?;
+    Ok(count)
 }
 
 // Whether the bytes are a sheet, and how many numbers it has.
-pub fn check(sheet: &[u8]) -> Answer
-    ensures { result ≡ checked (of_bytes sheet.now) (numbers (of_bytes sheet.now)) }
+pub fn check(sheet: &[u8]) -> Result<usize, Refusal>
+    ensures { answer_of result ≡ checked (of_bytes sheet.now) (numbers (of_bytes sheet.now)) }
 {
     let mut counts = [0u32; MOST_FIELDS as usize];
     check_with(sheet, &mut counts)
@@ -56,32 +48,28 @@ fn put_numbers(sheet: &[u8], output: &mut [u32])
 {
     let mut place: usize = 0;
     let mut k: usize = 0;
+    // A number has one to four bytes, so no `for` goes from number to number.
     while place < sheet.len() {
-        let number = read_number(sheet, place);
-        match number {
-            Number::Value(x, next) => {
-                output[k] = x;
-                place = next;
+        match read_number(sheet, place) {
+            Ok(number) => {
+                output[k] = number.value;
+                place = number.next;
                 k += 1;
             }
-            Number::Ended => return,
-            Number::IllFormed => return,
+            Err(_) => return,
         }
     }
 }
 
 // Reads a sheet's bytes to its list of numbers.
 #[tactic(auto, using(crate::proofs::Giving::giving))]
-pub fn read(sheet: &[u8], output: &mut [u32]) -> Answer
-    ensures { Gives (reading sheet.now output.old) result output.new }
+pub fn read(sheet: &[u8], output: &mut [u32]) -> Result<usize, Refusal>
+    ensures { Gives (reading sheet.now output.old) (answer_of result) output.new }
 {
-    let answer = check(sheet);
-    if answer.number != 0 {
-        return answer;
-    }
-    if output.len() < answer.length {
-        return answered(TOO_SHORT, 0);
+    let count = check(sheet)?;
+    if output.len() < count {
+        return Err(Refusal::TooShort);
     }
     put_numbers(sheet, output);
-    answer
+    Ok(count)
 }

@@ -2,12 +2,11 @@
 ghost use Rattle.std.specs.Prelude.{◌≡◌, ◌≤◌, length, replicate};
 ghost use Rattle.std.proofs.lemmas.List.Edits.{sets};
 ghost use Rattle.limits.specs.Limits.{most_fields};
-ghost use Rattle.sheet.specs.Sources.{is_retired, checked_list, Gives, writing, bytes_of};
+ghost use Rattle.sheet.specs.Sources.{answer_of, is_retired, checked_list, Gives, writing, bytes_of};
 
-use super::answer::{Answer, answered};
 use grammar::grammar::{Expected, State, advance, at_end};
 use groups::groups::{put, size};
-use limits::refusals::{OUT_OF_ORDER, OUT_OF_RANGE, RETIRED, SURPLUS, TOO_SHORT};
+use limits::refusals::Refusal;
 use limits::{MOST_FIELDS, RETIRED_KIND};
 
 // Whether x is the retired kind, where a kind is expected. The grammar takes it, for the reader; the writer alone refuses it.
@@ -21,35 +20,31 @@ fn is_retired(expected: Expected, x: u32) -> bool
 }
 
 // `counts` is room for the counts of the fields.
-fn check_with(numbers: &[u32], counts: &mut [u32]) -> Answer
+fn check_with(numbers: &[u32], counts: &mut [u32]) -> Result<usize, Refusal>
     requires { counts.old ≡ replicate most_fields 0 }
-    ensures { result ≡ checked_list numbers.now }
+    ensures { answer_of result ≡ checked_list numbers.now }
 {
     let mut state = State::Wants(0, Expected::Fields);
-    let mut k: usize = 0;
     let mut bytes: usize = 0;
-    while k < numbers.len() {
+    for &x in numbers {
         match state {
             State::Wants(n, expected) => {
-                let x = numbers[k];
                 if is_retired(expected, x) {
-                    return answered(RETIRED, 0);
+                    return Err(Refusal::Retired);
                 }
-                state = advance(n, expected, counts, x);
+                state = advance(n, expected, counts, x)?;
                 bytes += size(x);
-                k += 1;
             }
-            State::Complete => return answered(SURPLUS, 0),
-            State::OutOfRange => return answered(OUT_OF_RANGE, 0),
-            State::OutOfOrder => return answered(OUT_OF_ORDER, 0),
+            State::Complete => return Err(Refusal::Surplus),
         }
     }
-    answered(at_end(state), bytes)
+    at_end(state)?;
+    Ok(bytes)
 }
 
 // Whether the numbers are a sheet that is written, and how many bytes it has.
-pub fn check(numbers: &[u32]) -> Answer
-    ensures { result ≡ checked_list numbers.now }
+pub fn check(numbers: &[u32]) -> Result<usize, Refusal>
+    ensures { answer_of result ≡ checked_list numbers.now }
 {
     let mut counts = [0u32; MOST_FIELDS as usize];
     check_with(numbers, &mut counts)
@@ -60,27 +55,21 @@ fn put_bytes(numbers: &[u32], output: &mut [u8])
     requires { length (bytes_of numbers.now) ≤ length output.old }
     ensures { output.new ≡ sets output.old 0 (bytes_of numbers.now) }
 {
-    let mut k: usize = 0;
     let mut place: usize = 0;
-    while k < numbers.len() {
-        let x = numbers[k];
+    for &x in numbers {
         place = put(output, place, x);
-        k += 1;
     }
 }
 
 // Writes a list of numbers as a sheet's bytes.
 #[tactic(auto, using(crate::proofs::Giving::giving))]
-pub fn write(numbers: &[u32], output: &mut [u8]) -> Answer
-    ensures { Gives (writing numbers.now output.old) result output.new }
+pub fn write(numbers: &[u32], output: &mut [u8]) -> Result<usize, Refusal>
+    ensures { Gives (writing numbers.now output.old) (answer_of result) output.new }
 {
-    let answer = check(numbers);
-    if answer.number != 0 {
-        return answer;
-    }
-    if output.len() < answer.length {
-        return answered(TOO_SHORT, 0);
+    let bytes = check(numbers)?;
+    if output.len() < bytes {
+        return Err(Refusal::TooShort);
     }
     put_bytes(numbers, output);
-    answer
+    Ok(bytes)
 }

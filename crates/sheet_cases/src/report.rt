@@ -1,22 +1,28 @@
 // A line for each case, with its number and its length.
 use limits::MOST_NUMBERS;
+use limits::refusals::Refusal;
 use sheet::reading::read;
 use sheet::writing::write;
+use std::fmt::Display;
 use std::io;
 
-pub fn line(rt: &impl Print, name: &[u8], number: u32, length: usize) -> io::Result<()> {
-    rt.write_all(name)?;
-    println!(rt; ": {number} {length}")
+pub fn line(
+    rt: &impl Print,
+    name: impl Display + Drop,
+    answer: Result<usize, Refusal>,
+) -> io::Result<()> {
+    match answer {
+        Ok(length) => println!(rt; "{name}: 0 {length}"),
+        Err(refusal) => println!(rt; "{name}: {} 0", refusal.number()),
+    }
 }
 
-pub fn read_case(rt: &impl Print, name: &[u8], sheet: &[u8]) -> io::Result<()> {
+pub fn read_case(rt: &impl Print, name: impl Display + Drop, sheet: &[u8]) -> io::Result<()> {
     let mut numbers = [0u32; MOST_NUMBERS];
-    let answer = read(sheet, &mut numbers);
-    line(rt, name, answer.number, answer.length)
+    line(rt, name, read(sheet, &mut numbers))
 }
 
-pub fn write_case(rt: &impl Print, name: &[u8], numbers: &[u32]) -> io::Result<()> {
+pub fn write_case(rt: &impl Print, name: impl Display + Drop, numbers: &[u32]) -> io::Result<()> {
     let mut sheet = [0u8; 64];
-    let answer = write(numbers, &mut sheet);
-    line(rt, name, answer.number, answer.length)
+    line(rt, name, write(numbers, &mut sheet))
 }

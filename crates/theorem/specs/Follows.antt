@@ -3,7 +3,8 @@
 use Rattle.std.specs.Prelude.{◌≡◌, List, [], ◌∷◌, ℕ, take, drop}
 use Rattle.sheet.specs.Sources.{numbers, of_bytes}
 use Rattle.accepted.specs.Parts.{fields_of}
-use Rattle.ledger.specs.Ledger.{Decision, Ledger, Given, in_force, offers_of, number, after}
+use Rattle.ledger.specs.declared.Decision.{Decision}
+use Rattle.ledger.specs.Ledger.{Ledger, Given, in_force, offers_of, number, after}
 use Rattle.session.specs.Decisions.{held_in}
 use Rattle.session.specs.View.{past}
 use Rattle.answering.specs.Answer.{given}

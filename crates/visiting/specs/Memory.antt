@@ -1,8 +1,8 @@
 -- The words of the memory: where the masks of a setting stand, whether a set holds them all, and masks stored. Assumes nothing.
-use Rattle.std.specs.Prelude.{◌≡◌, ◌↔◌, ◌⊎◌, ◌&&◌, List, ltb, length, take, drop}
+use Rattle.std.specs.Prelude.{◌≡◌, ◌↔◌, ◌⊎◌, ◌&&◌, List, ltb, length, set, take, drop}
 use Rattle.std.proofs.Math.Path.{refl, sym}
 use Rattle.std.proofs.Common.{ap, ◌∙◌, inl, inr, eq-or-lt_of_le, le_of_suc-le-suc, arith, length-take, length-drop, get_or-take}
-use Rattle.std.proofs.Common.{get_or-drop, ext_get_or}
+use Rattle.std.proofs.Common.{get_or-drop, ext_get_or, length-set, get_or-set_same, get_or-set_other}
 use Rattle.std.proofs.Math.Logic.{⊎_elim}
 use Rattle.std.proofs.Math.Bool.{not}
 use Prim.Native.Nat.{ℕ, zero, suc, ◌+◌, ◌-◌, ◌*◌, ◌^◌, ◌≤◌, ◌<◌}
@@ -106,6 +106,23 @@ module _ (M : List ℕ) (base : ℕ) (S : List ℕ) where
             (let l = ltb-false h most_fields q in let n = recall-length M base k in omega arith) in
             absurd (never e (ap (λ (x : ℕ). bit x v) past ∙ bit_of-zero v)))
             (bool_cases (ltb h most_fields))
+
+-- ---- masks as a loop stores them at a place, the first i of them
+
+module _ (T0 : List ℕ) (base : ℕ) (w : ℕ → ℕ) where
+  pub stored-start : Stored T0 base w 0 T0
+  stored-start = record { sized = refl; here = λ h l. absurd (omega arith); there = λ j e. refl }
+
+  pub stored-turn : (i : ℕ) (T : List ℕ) (x : ℕ) → i < most_settings → base + i < length T → x ≡ w i → Stored T0 base w i T
+      → Stored T0 base w (i + 1) (set T (base + i) x)
+  stored-turn i T x b l e p = record {
+    sized = length-set T (base + i) x ∙ p.sized;
+    here = λ h k. ⊎_elim
+        (λ q. ap (λ (y : ℕ). get_or (set T (base + i) x) (base + y) 0) q ∙ get_or-set_same T (base + i) x 0 l ∙ e ∙ ap w (sym q))
+        (λ q. get_or-set_other T (base + i) (base + h) x 0 (λ z. omega arith) ∙ p.here h q)
+        (eq-or-lt_of_le (let j : h ≤ i = omega arith in j));
+    there = λ j o. get_or-set_other T (base + i) j x 0 (λ z. ⊎_elim (λ q. omega arith) (λ q. omega arith) o) ∙ p.there j o;
+  }
 
 -- ---- masks stored at a place: as many as `Stored` has words, since the most fields and the most settings are one number
 

@@ -3,15 +3,17 @@ ghost use Rattle.std.specs.Prelude.{◌↔◌, ◌≡◌, true, ◌+◌, ◌≤�
 ghost use Rattle.limits.specs.Limits.{most_fields, most_settings, memory_words};
 ghost use Rattle.masks.specs.Sets.{has, ◌⊆◌};
 ghost use Rattle.masks.specs.Restrict.{restrict};
-ghost use Rattle.network.specs.TripleTable.{problem_of};
+ghost use Rattle.network.specs.Network.{problem, hoods};
 ghost use Rattle.network.specs.Stored.{Stored, words_of};
-ghost use Rattle.closing.specs.Asks.{Masks, LiveAsks, Counted};
+ghost use Rattle.closing.specs.Asks.{Masks, LiveAsks, Counted, Kept};
 ghost use Rattle.visiting.specs.Memory.{place_of, recall};
 ghost use Rattle.visiting.specs.Store.{HoodAsks, Store, Recallable, Checked};
 
+use closing::ac4::Ac4;
 use closing::test::test;
-use limits::{COUNTER_WORDS, FIELDS, LIST_PLACES, SETTINGS, SUPPORT_WORDS};
+use limits::{FIELDS, SETTINGS};
 use masks::{flood, has_bit, one_bit};
+use network::tables::Tables;
 
 // Where the masks of position v of field f are in the memory.
 fn place(f: usize, v: usize) -> usize
@@ -27,10 +29,8 @@ fn intact(memory: &[u32], base: usize, m: &[u32; FIELDS]) -> bool
     ensures { (result ≡ true) ↔ (recall memory.now base ⊆ m.now) }
 {
     let mut lack: u32 = 0;
-    let mut h: usize = 0;
-    while h < FIELDS {
+    for h in 0..FIELDS {
         lack |= memory[base + h] & !m[h];
-        h += 1;
     }
     lack == 0
 }
@@ -63,10 +63,8 @@ fn remember(memory: &mut [u32], hood: &[u32; FIELDS], f: usize, v: usize, left: 
 {
     let base = place(f, v);
     let within = hood[f];
-    let mut h: usize = 0;
-    while h < FIELDS {
+    for h in 0..FIELDS {
         memory[base + h] = left[h] & flood(within, h);
-        h += 1;
     }
 }
 
@@ -79,46 +77,31 @@ pub enum CheckResult {
 }
 
 // Whether position v of field f passes in the set m over f's neighbourhood. With `remembers`, what a passed test left in the neighbourhood
-// is remembered, and while the set holds all of it the setting is not tested again. It is called for each setting: the parts of the network
-// are lent, since a copy of it would cost a tenth of the time on small sheets.
-pub fn check<'a, 'n>(
+// is remembered, and while the set holds all of it the setting is not tested again.
+pub fn check<'a>(
     m: &[u32; FIELDS],
     known: &mut [u32; FIELDS],
     memory: &mut [u32],
     remembers: bool,
     f: usize,
     v: usize,
-    n: usize,
-    counter: &[u32; COUNTER_WORDS],
-    copy: &mut [u32; COUNTER_WORDS],
-    support: &[u32; SUPPORT_WORDS],
-    list: &mut [u32; LIST_PLACES],
-    hood: &'n [u32; FIELDS],
-    joined: &'n [u32; FIELDS],
-    forward: &'a [u32],
-    turned: &'a [u32],
-    triples: &[u32],
+    ac4: &mut Ac4,
+    tables: &Tables<'a>,
 ) -> CheckResult
-    requires live_asks { LiveAsks n joined.now forward.now turned.now triples.now m.now
-        × Store (problem_of n joined.now forward.now turned.now triples.now) hood.now m.now known.old memory.old }
-    requires hood_asks { HoodAsks (problem_of n joined.now forward.now turned.now triples.now) hood.now f × (has m.now f v ≡ true) }
-    requires counted { Counted (problem_of n joined.now forward.now turned.now triples.now) support.now counter.now copy.old
-        list.old m.now }
-    ensures { Checked (problem_of n joined.now forward.now turned.now triples.now)
-        hood.now
-        m.now remembers f v result known.old memory.old copy.old list.old
-        known.new memory.new copy.new list.new
-        × Counted (problem_of n joined.now forward.now turned.now triples.now)
-        support.now
-        counter.now copy.new list.new m.now }
+    requires live_asks { LiveAsks tables.now m.now × Store (problem tables.now) (hoods tables.now) m.now known.old memory.old }
+    requires hood_asks { HoodAsks (problem tables.now) (hoods tables.now) f × (has m.now f v ≡ true) }
+    requires counted { Counted (problem tables.now) ac4.old m.now }
+    ensures checked { Checked (problem tables.now) (hoods tables.now) m.now remembers f v result known.old memory.old
+        ac4.old.copy.counts ac4.old.list.places known.new memory.new ac4.new.copy.counts ac4.new.list.places }
+    ensures counted { Counted (problem tables.now) ac4.new m.now }
+    ensures kept { Kept ac4.old ac4.new }
 {
     if recalled(remembers, m, known, memory, f, v) {
         return CheckResult::Recalled;
     }
+    let hood = &tables.network.hood;
     let mut left = *m;
-    if !test(
-        &mut left, n, f, v, hood[f], counter, copy, support, list, joined, forward, turned, triples,
-    ) {
+    if !test(&mut left, f, v, hood[f], ac4, tables) {
         return CheckResult::Failed;
     }
     if remembers {

@@ -1,98 +1,48 @@
 // The visit of a field.
 ghost use Rattle.std.specs.Prelude.{◌≡◌, false, ◌<◌, get_or};
-ghost use Rattle.network.specs.Network.{problem_in};
+ghost use Rattle.limits.specs.Refusals.{is_wiped, fields_in};
+ghost use Rattle.network.specs.Network.{problem, hoods};
 ghost use Rattle.closing.specs.Asks.{LiveAsks, Counted};
 ghost use Rattle.visiting.specs.Store.{HoodAsks, Store};
 ghost use Rattle.visiting.specs.Visit.{Visited};
 
 use super::store::{CheckResult, check};
-use closing::close::Narrowed;
+use closing::ac4::Ac4;
 use closing::test::remove;
-use limits::{COUNTER_WORDS, FIELDS, LIST_PLACES, SUPPORT_WORDS};
+use limits::FIELDS;
+use limits::refusals::WipedOut;
 use masks::{clear_bit, lowest_bit};
-use network::build::Network;
+use network::tables::Tables;
 
-// Tests each setting of f over f's neighbourhood, and removes those that fail.
+// Tests each setting of f over f's neighbourhood, and removes those that fail. The fields that lost settings.
 pub fn visit<'a>(
     m: &mut [u32; FIELDS],
     known: &mut [u32; FIELDS],
     memory: &mut [u32],
     remembers: bool,
     f: usize,
-    net: Network,
-    counter: &mut [u32; COUNTER_WORDS],
-    copy: &mut [u32; COUNTER_WORDS],
-    support: &[u32; SUPPORT_WORDS],
-    list: &mut [u32; LIST_PLACES],
-    forward: &'a [u32],
-    turned: &'a [u32],
-    triples: &[u32],
-) -> Narrowed
-    requires live_asks { LiveAsks net.fields net.joined forward.now turned.now triples.now m.old
-        × Store (problem_in net forward.now turned.now triples.now) net.hood m.old known.old memory.old }
-    requires f_lt_fields { (f < net.fields) × HoodAsks (problem_in net forward.now turned.now triples.now) net.hood f }
-    requires counted { Counted (problem_in net forward.now turned.now triples.now) support.now counter.old copy.old list.old
-        m.old }
-    ensures { Visited (problem_in net forward.now turned.now triples.now) (get_or net.hood f 0) f
-        m.old result.wiped result.changed m.new
-        × (result.wiped ≡ false → Store (problem_in net forward.now turned.now triples.now) net.hood
-        m.new
-        known.new memory.new)
-        × (result.wiped ≡ false → Counted (problem_in net forward.now turned.now triples.now)
-        support.now
-        counter.new copy.new list.new m.new) }
+    ac4: &mut Ac4,
+    tables: &Tables<'a>,
+) -> Result<u32, WipedOut>
+    requires live_asks { LiveAsks tables.now m.old × Store (problem tables.now) (hoods tables.now) m.old known.old memory.old }
+    requires f_lt_fields { (f < tables.now.network.now.fields) × HoodAsks (problem tables.now) (hoods tables.now) f }
+    requires counted { Counted (problem tables.now) ac4.old m.old }
+    ensures visited { Visited (problem tables.now) (get_or (hoods tables.now) f 0) f m.old (is_wiped result) (fields_in result) m.new }
+    ensures store { is_wiped result ≡ false → Store (problem tables.now) (hoods tables.now) m.new known.new memory.new }
+    ensures counted { is_wiped result ≡ false → Counted (problem tables.now) ac4.new m.new }
+    ensures support { ac4.new.support ≡ ac4.old.support }
 {
-    let n = net.fields;
     let mut touched: u32 = 0;
+    // No loop over positions: a removal takes positions from `left` too.
     let mut left = m[f];
     while left != 0 {
         let v = lowest_bit(left);
         left = clear_bit(left, v);
-        let found = check(
-            m,
-            known,
-            memory,
-            remembers,
-            f,
-            v,
-            n,
-            counter,
-            copy,
-            support,
-            list,
-            &net.hood,
-            &net.joined,
-            forward,
-            turned,
-            triples,
-        );
+        let found = check(m, known, memory, remembers, f, v, ac4, tables);
         if let CheckResult::Failed = found {
-            let r = remove(
-                m,
-                n,
-                f,
-                v,
-                counter,
-                copy,
-                support,
-                list,
-                &net.joined,
-                forward,
-                turned,
-                triples,
-            );
-            if r.wiped {
-                return Narrowed {
-                    wiped: true,
-                    changed: touched,
-                };
-            }
-            touched |= r.changed;
+            touched |= remove(m, f, v, ac4, tables)?;
             left &= m[f];
         }
     }
-    Narrowed {
-        wiped: false,
-        changed: touched,
-    }
+    Ok(touched)
 }

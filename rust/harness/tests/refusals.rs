@@ -28,12 +28,15 @@ fn expected(line: fn(Refusal) -> String) -> Vec<String> {
 
 #[test]
 fn definitions_and_code() {
-    let definitions = lines("crates/limits/specs/Refusals.antt", |line| line.contains(" = "));
+    let definitions = lines("crates/limits/specs/Refusals.antt", |line| line.contains(" = ") && line.starts_with(char::is_uppercase));
     assert_eq!(definitions, expected(|refusal| format!("{} = {}", name(refusal), refusal.number())));
-    let code = lines("crates/limits/src/refusals.rt", |line| line.starts_with("pub const"));
-    let mut given = expected(|refusal| format!("pub const {}: u32 = {};", name(refusal), refusal.number()));
-    given.retain(|line| line != "pub const TOO_NARROW: u32 = 8;");
-    assert_eq!(code, given);
+    let given = |line: fn(Refusal) -> String| -> Vec<String> {
+        Refusal::ALL.into_iter().filter(|&refusal| refusal != Refusal::TooNarrow).map(line).collect()
+    };
+    let numbers = lines("crates/limits/specs/Refusals.antt", |line| line.starts_with("number ") && line.contains(" = "));
+    assert_eq!(numbers, given(|refusal| format!("number {refusal:?} = {}", name(refusal))));
+    let code = lines("crates/limits/src/refusals.rt", |line| line.starts_with("Refusal::"));
+    assert_eq!(code, given(|refusal| format!("Refusal::{refusal:?} => {},", refusal.number())));
 }
 
 #[test]

@@ -1,14 +1,24 @@
-use mathlib.Core.Path.{sym, ◌∙◌}
+use mathlib.Core.Path.{sym, ap, ◌∙◌}
 use native.Mathlib.Omega.{arith}
-use lib.Seq.{length-take-le}
-use Rattle.belaykeel_offers.specs.Page.{page-is, front-is}
+use Prim.Native.Nat.{ℕ}
+use Rattle.std.specs.Prelude.{[]}
+use Rattle.printing.specs.Text.{text}
+use Rattle.belaykeel_offers.specs.Page.{page-opened, page-by, front-is}
 use Rattle.belaykeel_offers.proofs.page.Goals as goal
 
-pub slice_bounds-text-end : goal.slice_bounds-text-end
-slice_bounds-text-end c = sym (length-take-le _ _ c.opened-answer.ensures.ends)
+pub returns-in-Ok : goal.returns-in-Ok
+returns-in-Ok c =
+    let t = c.text.ensures in (
+      front-is c.args.output.now _ _ _ t.0 t.1 (omega (arith, t.2, c.requires))
+          ∙ page-opened c.args.sheet.now _ _ c.in-Ok.count c.in-Ok.ensures,
+      t.2,
+    )
 
-pub returns : goal.returns
-returns c =
-    let t = c.text.ensures in
-    let e = page-is c.args.sheet.now _ _ _ c.opened-answer.ensures in
-    (front-is c.args.output.now _ _ _ t.0 t.1 (omega (arith, t.2, c.requires)) ∙ e, t.2)
+pub returns-in-Err : goal.returns-in-Err
+returns-in-Err c =
+    let t = c.text-in-Err.ensures in (
+      front-is c.args.output.now _ _ _ t.0 t.1 (omega (arith, t.2, c.requires))
+          ∙ ap (λ (k : ℕ). text [] k c.opened.new.offers) c.number.ensures
+          ∙ page-by c.args.sheet.now _ _ c.in-Err.refusal c.in-Err.ensures,
+      t.2,
+    )

@@ -1,10 +1,6 @@
 -- `lower` lowers the counts of one field after the other.
-use Prim.Native.Nat.{◌-◌, ◌≤◌}
 use Rattle.counter.specs.Counts.{Lowered}
 use Rattle.counter.proofs.lower.Given as goal
 
 abbrev pub invariant-loop-i : goal.invariant-loop-i
-invariant-loop-i l = (l.i ≤ l.wide) × Lowered l.initial.counter l.j l.s l.i l.none l.counter
-
-abbrev pub decreases-loop-i : goal.decreases-loop-i
-decreases-loop-i l = l.wide - l.i
+invariant-loop-i l = Lowered l.initial.counter l.j l.s l.i l.none l.counter

@@ -6,7 +6,5 @@ use Rattle.counter.proofs.lower_word.Goals as goal
 
 pub returns : goal.returns
 returns c =
-    lowered-word _ _ _ _ _ _ _ _ _ _ _ _ _
-    (five-stored _ _ _ _ _ _ _ _ _ _ _ _ (let p = c.requires in omega arith)
-    c.put.ensures c.put-2.ensures c.put-3.ensures c.put-4.ensures c.put-5.ensures)
+    lowered-word _ _ _ _ _ _ _ _ _ _ _ _ _ (five-stored _ _ _ _ _ _ _ _ _ _ _ _ (omega arith) refl refl refl refl refl)
     refl refl refl refl refl refl refl refl refl

@@ -4,7 +4,7 @@ use Rattle.printing.specs.Lengths.{text-accepted, text-refused, text-length}
 use Rattle.printing.proofs.text.Goals as goal
 
 pub put_lines-requires : goal.put_lines-requires
-put_lines-requires c = (c.requires.0 c.if-number-eq0.true, c.requires.1)
+put_lines-requires c = c.requires.1
 
 pub returns-then-number-eq0 : goal.returns-then-number-eq0
 returns-then-number-eq0 c =

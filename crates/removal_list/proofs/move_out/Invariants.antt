@@ -1,10 +1,7 @@
--- `move_out` takes the positions of gone from the set, the lowest first, and puts each at the tail. The measure is what is still to come.
+-- `move_out` takes the positions of gone from the set, the lowest first, and puts each at the tail. Assumes nothing.
 use Rattle.removal_list.specs.Moving.{Moving}
 use Rattle.removal_list.proofs.move_out.Given as goal
 
--- Assumes nothing.
-abbrev pub invariant-loop-left : goal.invariant-loop-left
-invariant-loop-left l = Moving l.initial.d l.initial.list l.tail l.i l.gone l.left l.d l.list l.t
-
-abbrev pub decreases-loop-left : goal.decreases-loop-left
-decreases-loop-left l = l.left
+abbrev pub invariant-loop-a : goal.invariant-loop-a
+invariant-loop-a l =
+    Moving l.initial.d l.initial.list.places l.initial.list.tail l.i l.gone l.a-iterator.left l.d l.list.places l.list.tail

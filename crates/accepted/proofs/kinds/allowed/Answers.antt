@@ -12,7 +12,7 @@ use Rattle.accepted.proofs.kinds.allowed.Goals as goal
 
 pub returns-in-0 : goal.returns-in-0
 unfolding pick
-returns-in-0 c = rw c.in-0.is c.has.ensures
+returns-in-0 c = rw c.in-0.is c.has_position.ensures.is
 
 pub returns-in-1 : goal.returns-in-1
 unfolding pick

@@ -3,20 +3,12 @@ use borrow.Author.Rules.{rules}
 use Rattle.accepted.specs.Outline.{outlining_first, outlining_field, outlining_next, outlining_last}
 use Rattle.accepted.proofs.outline.outline_of.Goals as goal
 
-pub fields-fields-requires : goal.fields-fields-requires
-fields-fields-requires c = c.requires
-
 pub loop-f-init : goal.loop-f-init
 loop-f-init c = outlining_first _ _ c.requires c.fields-fields.ensures
 
-pub count-requires : goal.count-requires
-count-requires c =
-    let p = c.loop-f.invariant in
-    record { accepted = p.accepted; within = (outlining_field _ _ _ _ p c.loop-f-test.true).0 }
-
-pub positions-requires : goal.positions-requires
-positions-requires c =
-    let d = c.count.ensures in
+pub first_positions-requires : goal.first_positions-requires
+first_positions-requires c =
+    let d = rw (c.field.ensures.0, c.field.ensures.1) at c.count.ensures in
     let m = (outlining_field _ _ _ _ c.loop-f.invariant c.loop-f-test.true).3 in
     omega arith
 
@@ -28,8 +20,8 @@ bounds-full-f c = (outlining_field _ _ _ _ c.loop-f.invariant c.loop-f-test.true
 
 pub loop-f-preserved : goal.loop-f-preserved
 loop-f-preserved c =
-    outlining_next _ _ _ _ c.loop-f.invariant c.loop-f-test.true _ _ c.count.ensures
-    c.positions.ensures
+    outlining_next _ _ _ _ c.loop-f.invariant c.loop-f-test.true _ _
+    (rw (c.field.ensures.0, c.field.ensures.1) at c.count.ensures) c.first_positions.ensures
 
 pub returns : goal.returns
 returns c = outlining_last _ _ _ _ c.loop-f.invariant c.loop-f-test.false

@@ -1,24 +1,24 @@
+use mathlib.Core.Path.{refl}
+use Rattle.std.proofs.lemmas.Result.{err_from_is_err_and}
 use Rattle.session.specs.View.{view}
 use Rattle.answering.specs.Settle.{fields-few, settle-asks, settled_wiped, settled_offers}
 use Rattle.answering.proofs.settle.settle.Goals as goal
 
 pub run-requires : goal.run-requires
-run-requires c =
-    let t = c.turned-turned.ensures in
-    let f = c.forward-forward.ensures in
-    let m = c.start-m.ensures in
-    record {
-      run_asks = rw (f, t) (settle-asks _ _ _ _ _ _ _ _ c.requires _ _ m);
-      memory_words_in_bounds = c.requires.enough.memory-room;
-    }
+run-requires c = record {
+  run_asks = settle-asks _ _ _ _ _ _ _ _ c.requires _
+      (record { network = refl; forward = c.forward.ensures; turned = c.turned.ensures; drafts = refl }) _ _ c.start-m.ensures;
+  memory_words_in_bounds = c.requires.enough.memory-room;
+}
 
-pub returns-then-run : goal.returns-then-run
+pub returns-in_err-run : goal.returns-in_err-run
 unfolding view
-returns-then-run c =
-    let t = c.turned-turned.ensures in
-    let f = c.forward-forward.ensures in
-    let m = c.start-m.ensures in
-    λ xs p. settled_wiped xs _ _ _ _ p (view c.args.session) _ _ _ _ m (rw (f, t) at c.run.ensures) c.if-run.true
+returns-in_err-run c =
+    let r = err_from_is_err_and c.from_residual.result c.from_residual.ensures.1 in
+    rw r.1 (λ xs p. settled_wiped xs _ _ _ _ p
+    (record { network = c.args.net; forward = c.forward.result; turned = c.turned.result; triples = c.args.triples })
+    (record { network = refl; forward = c.forward.ensures; turned = c.turned.ensures; drafts = refl })
+    (view c.args.session) _ _ _ _ c.start-m.ensures c.in_err-run.ensures refl)
 
 pub put-requires : goal.put-requires
 put-requires c =
@@ -27,8 +27,7 @@ put-requires c =
 pub returns : goal.returns
 unfolding view
 returns c =
-    let t = c.turned-turned.ensures in
-    let f = c.forward-forward.ensures in
-    let m = c.start-m.ensures in
-    λ xs p. settled_offers xs _ _ _ _ p (view c.args.session) _ _ _ _ m (rw (f, t) at c.run.ensures) c.if-run.false _
-    c.put.ensures
+    λ xs p. settled_offers xs _ _ _ _ p
+    (record { network = c.args.net; forward = c.forward.result; turned = c.turned.result; triples = c.args.triples })
+    (record { network = refl; forward = c.forward.ensures; turned = c.turned.ensures; drafts = refl })
+    (view c.args.session) _ _ _ _ c.start-m.ensures c.in_ok-run.ensures refl _ c.put.ensures

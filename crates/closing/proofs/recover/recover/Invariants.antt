@@ -6,9 +6,6 @@ use Rattle.masks.specs.Bits.{Within}
 use Rattle.pruning.specs.Prune.{OnlySpent}
 use Rattle.closing.proofs.recover.recover.Given as goal
 
-abbrev pub invariant-loop-left : goal.invariant-loop-left
-invariant-loop-left l =
-    (length l.copy ≡ counter_words) × Within l.left l.spent × OnlySpent l.left l.counter l.copy
-
-abbrev pub decreases-loop-left : goal.decreases-loop-left
-decreases-loop-left l = l.left
+abbrev pub invariant-loop-j : goal.invariant-loop-j
+invariant-loop-j l =
+    (length l.copy ≡ counter_words) × Within l.j-iterator.left l.spent × OnlySpent l.j-iterator.left l.counter l.copy

@@ -2,8 +2,5 @@
 use Rattle.engines.specs.PutBack.{Backing}
 use Rattle.engines.proofs.queue.put_back.Given as goal
 
-abbrev pub invariant-loop-left : goal.invariant-loop-left
-invariant-loop-left l = Backing l.net.fields l.net.hood l.queue l.changed l.left l.r
-
-abbrev pub decreases-loop-left : goal.decreases-loop-left
-decreases-loop-left l = l.left
+abbrev pub invariant-loop-f : goal.invariant-loop-f
+invariant-loop-f l = Backing l.net.fields l.net.hood l.queue l.changed l.f-iterator.left l.r

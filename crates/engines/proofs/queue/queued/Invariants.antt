@@ -4,7 +4,7 @@ use Prim.Native.Nat.{◌+◌, ◌*◌, ◌^◌}
 use lib.ListN.{length}
 use Rattle.limits.specs.Limits.{most_fields}
 use Rattle.masks.specs.Sets.{count}
-use Rattle.network.specs.Network.{problem_in}
+use Rattle.network.specs.Network.{problem, hoods}
 use Rattle.closing.specs.Asks.{Counted}
 use Rattle.visiting.specs.Store.{Store}
 use Rattle.engines.specs.Queue.{Turning}
@@ -12,9 +12,9 @@ use Rattle.engines.proofs.queue.queued.Given as goal
 
 abbrev pub invariant-loop-queue : goal.invariant-loop-queue
 invariant-loop-queue l =
-    Turning (problem_in l.net l.forward l.turned l.triples) l.order l.net.hood l.selected l.initial.m l.queue l.m
-    × Store (problem_in l.net l.forward l.turned l.triples) l.net.hood l.m l.known l.memory × (length l.memory ≡ length l.initial.memory)
-    × Counted (problem_in l.net l.forward l.turned l.triples) l.support l.counter l.copy l.list l.m
+    Turning (problem l.tables) l.order (hoods l.tables) l.selected l.initial.m l.queue l.m
+    × Store (problem l.tables) (hoods l.tables) l.m l.known l.memory × (length l.memory ≡ length l.initial.memory)
+    × Counted (problem l.tables) l.ac4 l.m
 
 abbrev pub decreases-loop-queue : goal.decreases-loop-queue
 decreases-loop-queue l =

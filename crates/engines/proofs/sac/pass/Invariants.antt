@@ -1,8 +1,7 @@
 -- `pass` visits the selected fields in the lent order.
 use mathlib.Core.Path.{◌≡◌}
-use Prim.Native.Nat.{◌≤◌, ◌-◌}
 use lib.ListN.{length}
-use Rattle.network.specs.Network.{problem_in}
+use Rattle.network.specs.Network.{problem, hoods}
 use Rattle.closing.specs.Asks.{Counted}
 use Rattle.visiting.specs.Store.{Store}
 use Rattle.engines.specs.Pass.{Passing}
@@ -10,10 +9,6 @@ use Rattle.engines.proofs.sac.pass.Given as goal
 
 abbrev pub invariant-loop-q : goal.invariant-loop-q
 invariant-loop-q l =
-    (l.q ≤ l.n) × Passing (problem_in l.net l.forward l.turned l.triples) l.order l.net.hood l.selected l.initial.m l.q l.touched l.m
-    × Store (problem_in l.net l.forward l.turned l.triples) l.net.hood l.m l.known l.memory × (length l.memory ≡ length l.initial.memory)
-    × Counted (problem_in l.net l.forward l.turned l.triples) l.support l.counter l.copy l.list l.m
-
-abbrev pub decreases-loop-q : goal.decreases-loop-q
-decreases-loop-q l =
-    l.n - l.q
+    Passing (problem l.tables) l.order (hoods l.tables) l.selected l.initial.m l.q l.touched l.m
+    × Store (problem l.tables) (hoods l.tables) l.m l.known l.memory × (length l.memory ≡ length l.initial.memory)
+    × Counted (problem l.tables) l.ac4 l.m × (l.ac4.support ≡ l.initial.ac4.support)

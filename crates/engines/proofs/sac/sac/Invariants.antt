@@ -3,18 +3,18 @@ use mathlib.Core.Path.{◌≡◌}
 use Prim.Native.Nat.{ℕ}
 use lib.ListN.{length}
 use Rattle.masks.specs.Sets.{count}
-use Rattle.network.specs.Network.{problem_in}
+use Rattle.network.specs.Network.{problem, hoods}
 use Rattle.closing.specs.Asks.{Counted}
 use Rattle.visiting.specs.Store.{Store}
 use Rattle.engines.specs.Engine.{Kept}
 use Rattle.engines.proofs.sac.sac.Given as goal
 
-abbrev pub invariant-loop-net : goal.invariant-loop-net
-invariant-loop-net l =
-    ((touched : ℕ) × Kept (problem_in l.net l.forward l.turned l.triples) l.net.hood l.selected l.initial.m touched l.m)
-    × Store (problem_in l.net l.forward l.turned l.triples) l.net.hood l.m l.known l.memory × (length l.memory ≡ length l.initial.memory)
-    × Counted (problem_in l.net l.forward l.turned l.triples) l.support l.counter l.copy l.list l.m
+abbrev pub invariant-loop-touched : goal.invariant-loop-touched
+invariant-loop-touched l =
+    ((touched : ℕ) × Kept (problem l.tables) (hoods l.tables) l.selected l.initial.m touched l.m)
+    × Store (problem l.tables) (hoods l.tables) l.m l.known l.memory × (length l.memory ≡ length l.initial.memory)
+    × Counted (problem l.tables) l.ac4 l.m
 
-abbrev pub decreases-loop-net : goal.decreases-loop-net
-decreases-loop-net l =
+abbrev pub decreases-loop-touched : goal.decreases-loop-touched
+decreases-loop-touched l =
     count l.m

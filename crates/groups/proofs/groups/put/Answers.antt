@@ -1,6 +1,6 @@
 -- The loop stores the groups of x one by one: `Storing` says what is stored and what is to come.
 use Rattle.std.specs.Prelude.{◌≡◌, refl, List, [], ℕ, ◌+◌, ◌-◌, ◌/◌, ◌%◌, ◌<◌, ◌≤◌, length, set}
-use Rattle.std.proofs.Common.{ap, arith}
+use Rattle.std.proofs.Common.{ap, arith, add-zero}
 use Rattle.groups.specs.Groups.{encode, encode_in, encode_in-last, encode_in-more, encode_in-none}
 use Rattle.groups.specs.Storing.{Storing, storing_none, storing_one, storing_done}
 use Rattle.groups.proofs.groups.put.Goals as goal
@@ -14,34 +14,38 @@ module _ {out : List ℕ} {i : ℕ} {out₀ all : List ℕ} {from : ℕ} (left y
       → Storing (set out i (y % 128 + 128)) (i + 1) (encode_in (left - 1) (y / 128)) out₀ from all
   more p h g = storing_one _ (encode_in-more left y p h) g
 
-pub loop-left-init : goal.loop-left-init
+pub loop-k-init : goal.loop-k-init
 unfolding encode
-loop-left-init c = storing_none _ _ _
+loop-k-init c = rw add-zero (storing_none _ _ _)
 
-pub loop-left-preserved : goal.loop-left-preserved
-loop-left-preserved c = more c.loop-left.left c.loop-left.y (omega arith) (omega arith) c.loop-left.invariant
+pub loop-k-preserved : goal.loop-k-preserved
+loop-k-preserved c =
+    let l = c.loop-k in
+    let i : c.args.place + (l.k + 1) ≡ c.args.place + l.k + 1 = omega arith in
+    let left : 4 - (l.k + 1) ≡ 4 - l.k - 1 = omega arith in
+    rw (i, left) (more (4 - l.k) l.y (omega arith) (omega arith) l.invariant)
 
 pub returns : goal.returns
 returns c =
-    let l = c.loop-left in
-    let z : l.left ≡ 0 = omega arith in
-    let e : encode_in l.left l.y ≡ [] = rw z (encode_in-none l.y) in
+    let l = c.loop-k in
+    let z : 4 - l.k ≡ 0 = omega arith in
+    let e : encode_in (4 - l.k) l.y ≡ [] = rw z (encode_in-none l.y) in
     (omega (arith, l.invariant.ends, ap length e), storing_done e l.invariant)
 
-pub bounds-output-i : goal.bounds-output-i
-bounds-output-i c =
-    let l = c.loop-left in
-    let g = last l.left l.y (omega arith) (omega arith) l.invariant in
+pub bounds-output-place : goal.bounds-output-place
+bounds-output-place c =
+    let l = c.loop-k in
+    let g = last (4 - l.k) l.y (omega arith) (omega arith) l.invariant in
     omega (arith, g.ends, l.invariant.size)
 
 pub returns-then-y-lt128 : goal.returns-then-y-lt128
 returns-then-y-lt128 c =
-    let l = c.loop-left in
-    let g = last l.left l.y (omega arith) (omega arith) l.invariant in
+    let l = c.loop-k in
+    let g = last (4 - l.k) l.y (omega arith) (omega arith) l.invariant in
     (omega (arith, g.ends), storing_done refl g)
 
-pub bounds-output-i-in-loop-left : goal.bounds-output-i-in-loop-left
-bounds-output-i-in-loop-left c =
-    let l = c.loop-left in
-    let g = more l.left l.y (omega arith) (omega arith) l.invariant in
+pub bounds-output-place-in-loop-k : goal.bounds-output-place-in-loop-k
+bounds-output-place-in-loop-k c =
+    let l = c.loop-k in
+    let g = more (4 - l.k) l.y (omega arith) (omega arith) l.invariant in
     omega (arith, g.ends, l.invariant.size)

@@ -1,50 +1,28 @@
-use mathlib.Core.Path.{◌∙◌}
 use native.Mathlib.Omega.{arith}
 use Rattle.limits.specs.Limits.{most_settings}
 use Rattle.masks.proofs.Bits.{bit_bound}
-use Rattle.masks.proofs.Words.{clear-lt}
 use Rattle.pruning.specs.SupportSet.{set-has}
 use Rattle.initializing.specs.Count.{made-start, made-turn}
 use Rattle.initializing.proofs.initialize_ac.count_towards.Goals as goal
 
-pub loop-left-init : goal.loop-left-init
-loop-left-init c = (c.requires.3, made-start _ _ _ _ _)
-
-pub overflow_mul-j : goal.overflow_mul-j
-overflow_mul-j c = let j = c.requires.0 in omega arith
-
-pub overflow_add-j : goal.overflow_add-j
-overflow_add-j c =
-    let b = bit_bound most_settings _ _ c.requires.1 (c.loop-left.invariant.1.lefts _ c.lowest_bit-b.ensures.0.set) in
-    let j = c.requires.0 in
-    omega arith
+pub loop-b-init : goal.loop-b-init
+loop-b-init c =
+    rw (c.into_iter-b-iterator.ensures.into_iter_gives, c.positions-b-items.ensures) (made-start _ _ _ _ _)
 
 pub support_set-s-requires : goal.support_set-s-requires
 support_set-s-requires c =
-    let b = bit_bound most_settings _ _ c.requires.1 (c.loop-left.invariant.1.lefts _ c.lowest_bit-b.ensures.0.set) in
-    let j = c.requires.0 in
+    let p = c.requires in
+    let b = bit_bound most_settings _ _ p.1 (c.loop-b.invariant.lefts _ c.in-Some.ensures.steps.lowest.set) in
     omega arith
 
-pub raise-requires : goal.raise-requires
-raise-requires c =
+pub loop-b-preserved : goal.loop-b-preserved
+loop-b-preserved c =
     let p = c.requires in
-    (p.0, p.2, c.loop-left.invariant.0)
-
-pub loop-left-smaller : goal.loop-left-smaller
-loop-left-smaller c =
-    rw c.clear_bit-left.ensures (clear-lt _ _ c.lowest_bit-b.ensures.0.set)
-
-pub loop-left-preserved : goal.loop-left-preserved
-loop-left-preserved c =
-    let i = c.loop-left.invariant in
-    let r = c.raise.ensures in
-    let e = c.lowest_bit-b.ensures.0.set in
-    let w = c.requires.2 in (
-      r.sized ∙ i.0,
-      rw c.clear_bit-left.ensures
-          (made-turn _ _ _ _ _ _ _ _ i.1 e (bit_bound most_settings _ _ c.requires.1 (i.1.lefts _ e)) _
-          (λ i a l. set-has _ _ _ _ c.support_set-s.ensures i a (omega arith)) _ r),
-    )
+    let i = c.loop-b.invariant in
+    let e = c.in-Some.ensures.steps.lowest.set in
+    rw c.in-Some.ensures.steps.rest
+    (made-turn _ _ _ _ _ _ _ _ i e (bit_bound most_settings _ _ p.1 (i.lefts _ e)) _
+    (λ i a l. set-has _ _ _ _ c.support_set-s.ensures i a (omega arith)) _ c.raise.ensures)
 
 pub returns : goal.returns
-returns c = rw c.loop-left-test.false at c.loop-left.invariant.1
+returns c = rw c.in-None.ensures.steps.0 at c.loop-b.invariant

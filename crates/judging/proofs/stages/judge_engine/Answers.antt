@@ -1,11 +1,5 @@
-use Rattle.ledger.specs.Causes.{first_end, first-applies, first_next}
-use Rattle.ledger.specs.Ledger.{no_engine}
+use Rattle.judging.proofs.Engines.{engine-decoded}
 use Rattle.judging.proofs.stages.judge_engine.Goals as goal
 
-pub returns-then-engine : goal.returns-then-engine
-unfolding no_engine
-returns-then-engine c = first-applies _ _ _ c.if-engine.true
-
-pub returns : goal.returns
-unfolding no_engine
-returns c = first_next _ _ _ c.if-engine.false first_end
+pub returns-clause-number : goal.returns-clause-number
+returns-clause-number c = engine-decoded _ _ c.try_from.ensures

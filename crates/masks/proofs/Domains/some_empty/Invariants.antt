@@ -1,12 +1,8 @@
 -- `some_empty` looks at one mask after the other: those passed are not 0.
 use mathlib.Core.Path.{◌≡◌}
 use mathlib.Core.Bool.{false}
-use Prim.Native.Nat.{◌≤◌, ◌-◌}
 use Rattle.masks.specs.Settings.{some_empty}
 use Rattle.masks.proofs.Domains.some_empty.Given as goal
 
 abbrev pub invariant-loop-f : goal.invariant-loop-f
-invariant-loop-f l = (l.f ≤ l.n) × (some_empty l.f l.self.masks ≡ false)
-
-abbrev pub decreases-loop-f : goal.decreases-loop-f
-decreases-loop-f l = l.n - l.f
+invariant-loop-f l = some_empty l.f l.self.masks ≡ false

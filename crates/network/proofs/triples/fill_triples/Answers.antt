@@ -2,45 +2,42 @@
 use mathlib.Core.Path.{◌∙◌}
 use native.Mathlib.Omega.{arith}
 use borrow.Author.Rules.{rules}
-use Rattle.network.specs.TripleLoop.{few-triples}
+use Rattle.network.specs.TripleBounds.{few-triples}
 use Rattle.network.specs.TriplesFilled.{full-room, masks-room, front_filled, front-zeros, front-room, triples-of}
 use Rattle.network.proofs.triples.fill_triples.Goals as goal
 
 pub overflow_cast-triples : goal.overflow_cast-triples
 overflow_cast-triples c =
-    let k = few-triples c.args.numbers.now _ c.requires.0 c.triples_from-count.ensures in
+    let f = c.triples-from.result in
+    let k = few-triples _ _ f.accepted f.counted in
     search rules
 
 pub store-requires : goal.store-requires
 store-requires c =
-    let l = full-room c.args.triples.now c.triples_from-count.result _ c.requires.2 in
+    let l = full-room c.args.triples.now c.triples-from.result.count _ c.requires.2 in
     omega arith
 
 pub store-requires-2 : goal.store-requires-2
 store-requires-2 c =
-    let l = masks-room c.args.triples.now _ c.triples_from-count.result _ _ _ c.requires.2 c.store.ensures in
+    let l = masks-room c.args.triples.now _ c.triples-from.result.count _ _ _ c.requires.2 c.store.ensures in
     omega arith
 
 pub fill_blocks-requires : goal.fill_blocks-requires
 fill_blocks-requires c =
-    let e = c.triples_from-count.ensures in
-    let front = front_filled c.args.numbers.now c.args.triples.now _ c.triples_from-count.result _ _ _ _ c.requires.2 c.requires.1
-    c.triples_with-masks.ensures c.store.ensures c.store-2.ensures in (
-      c.requires.0,
-      c.triples_at-at.ensures,
-      e,
-      front-room _ _ _ _ front e c.requires.2,
-      front-zeros _ _ _ _ front c.requires.3,
-    )
+    let e = rw c.triples-from.ensures at c.triples-from.result.counted in
+    let front = front_filled c.args.numbers.now c.args.triples.now _ c.triples-from.result.count _ _ _ _ c.requires.2 c.requires.1
+    (rw c.triples-from.ensures at c.triples_with-masks.ensures) c.store.ensures c.store-2.ensures in
+    (front-room _ _ _ _ front e c.requires.2, front-zeros _ _ _ _ front c.requires.3)
 
 pub shape_of-triples : goal.shape_of-triples
 shape_of-triples c =
-    let front = front_filled c.args.numbers.now c.args.triples.now _ c.triples_from-count.result _ _ _ _ c.requires.2 c.requires.1
-    c.triples_with-masks.ensures c.store.ensures c.store-2.ensures in
+    let front = front_filled c.args.numbers.now c.args.triples.now _ c.triples-from.result.count _ _ _ _ c.requires.2 c.requires.1
+    (rw c.triples-from.ensures at c.triples_with-masks.ensures) c.store.ensures c.store-2.ensures in
     c.fill_blocks.ensures.sized ∙ front.sized
 
 pub returns : goal.returns
 returns c =
-    let front = front_filled c.args.numbers.now c.args.triples.now _ c.triples_from-count.result _ _ _ _ c.requires.2 c.requires.1
-    c.triples_with-masks.ensures c.store.ensures c.store-2.ensures in
-    triples-of _ _ _ _ front c.requires.0 c.triples_from-count.ensures c.requires.2 _ c.fill_blocks.ensures
+    let e = rw c.triples-from.ensures at c.triples-from.result.counted in
+    let front = front_filled c.args.numbers.now c.args.triples.now _ c.triples-from.result.count _ _ _ _ c.requires.2 c.requires.1
+    (rw c.triples-from.ensures at c.triples_with-masks.ensures) c.store.ensures c.store-2.ensures in
+    triples-of _ _ _ _ front c.requires.0 e c.requires.2 _ (rw c.triples-from.ensures at c.fill_blocks.ensures)

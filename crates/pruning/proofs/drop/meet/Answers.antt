@@ -2,19 +2,18 @@ use mathlib.Core.Path.{◌≡◌, sym, ap}
 use mathlib.Core.Bool.{not}
 use Prim.Native.Nat.{ℕ}
 use native.Mathlib.Omega.{arith}
-use borrow.Author.Rules.{rules}
 use lib.Dec.{eqb}
 use Rattle.pruning.specs.Drop.{both-none, both-next, meets}
 use Rattle.pruning.proofs.drop.meet.Goals as goal
 
 pub loop-i-init : goal.loop-i-init
-loop-i-init c = (search rules, sym (both-none _ _))
+loop-i-init c = sym (both-none _ _)
 
 pub loop-i-preserved : goal.loop-i-preserved
-loop-i-preserved c = (search rules, rw c.loop-i.invariant.1 (sym (both-next _ _ _)))
+loop-i-preserved c = rw c.loop-i.invariant (sym (both-next _ _ _))
 
 pub returns : goal.returns
 unfolding meets
 returns c =
     let e : c.loop-i.i ≡ c.args.wide = omega arith in
-    ap (λ (both : ℕ). not (eqb both 0)) (rw e at c.loop-i.invariant.1)
+    ap (λ (both : ℕ). not (eqb both 0)) (rw e at c.loop-i.invariant)

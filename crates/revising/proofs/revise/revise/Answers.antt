@@ -23,7 +23,7 @@ support-kept-requires c =
 pub returns : goal.returns
 returns c =
     let p = c.requires in
-    revision_of _ _ p.0 _ p.2 p.1 _ _ c.args.none.now _ _ _ _ _ _ _ _ _ _ _ _ p.3
+    revision_of _ _ p.0 _ p.2 p.1 _ _ c.args.none.now _ _ _ _ _ _ _ _ _ _ _ _ c.told-none
     c.field-i.ensures.0 c.field-j.ensures.0 c.field-k.ensures.0
     c.free-lower.ensures c.free-middle.ensures c.free-upper.ensures c.support-kept.ensures
     c.one_bit.ensures c.one_bit-2.ensures c.one_bit-3.ensures

@@ -3,8 +3,5 @@ use Rattle.masks.specs.Bits.{Within}
 use Rattle.revising.specs.Table.{Touching}
 use Rattle.revising.proofs.table.touched.Given as goal
 
-abbrev pub invariant-loop-left : goal.invariant-loop-left
-invariant-loop-left l = Within l.left l.fields × Touching l.triples l.fields l.left l.some
-
-abbrev pub decreases-loop-left : goal.decreases-loop-left
-decreases-loop-left l = l.left
+abbrev pub invariant-loop-f : goal.invariant-loop-f
+invariant-loop-f l = Within l.f-iterator.left l.fields × Touching l.triples l.fields l.f-iterator.left l.some

@@ -1,4 +1,5 @@
+use Rattle.session.specs.Decisions.{change_within}
 use Rattle.session.proofs.steps.record.Goals as goal
 
-pub returns : goal.returns
-returns c = rw c.apply-d.ensures
+pub applied-requires : goal.applied-requires
+applied-requires c = rw c.change.ensures (change_within _ _ _ c.requires.field c.requires.position)

@@ -3,7 +3,7 @@ use Rattle.session.proofs.steps.step.Goals as goal
 
 pub returns-in-Open : goal.returns-in-Open
 unfolding stepped
-returns-in-Open c = rw c.in-Open.is (rw c.begin-next.ensures)
+returns-in-Open c = rw (c.in-Open.is, c.begin.ensures, c.none.ensures)
 
 pub returns-in-Show : goal.returns-in-Show
 unfolding stepped
@@ -19,4 +19,4 @@ returns-in-Back c = rw c.in-Back.is c.undo.ensures
 
 pub returns-in-CoilOn : goal.returns-in-CoilOn
 unfolding stepped
-returns-in-CoilOn c = rw c.in-CoilOn.is c.begin.ensures
+returns-in-CoilOn c = rw c.in-CoilOn.is c.begin-in-CoilOn.ensures

@@ -1,0 +1,15 @@
+use Prim.Native.Nat.{◌<◌}
+use native.Mathlib.Omega.{arith}
+use borrow.Author.Rules.{rules}
+use lib.ListN.{length}
+use Rattle.accepted.specs.Facts.{facts}
+use Rattle.accepted.proofs.parts.AcceptedSheet.reach.Goals as goal
+
+pub offset_bounds-self-fields_end : goal.offset_bounds-self-fields_end
+offset_bounds-self-fields_end c =
+    let s = c.args.self in
+    let k : c.fields_end.result < length s.numbers.now = omega (arith, c.fields_end.ensures, (facts _ s.accepted).tail_end) in
+    search rules
+
+pub bounds-self-fields_end : goal.bounds-self-fields_end
+bounds-self-fields_end c = omega (arith, c.fields_end.ensures, (facts _ c.args.self.accepted).tail_end)
