@@ -44,17 +44,19 @@ fn input_room() -> [u8; INPUT_BYTES]
     [0; INPUT_BYTES]
 }
 
-// Reads until the room is full or the input ends; how many bytes stand at the room's front.
+// Reads until the room is full or the input ends; how many bytes stand at the room's front. Nothing is read into a full room: some inputs
+// refuse to give no bytes, or wait.
 fn read_full<R: Read>(from: &mut R, room: &mut [u8]) -> io::Result<usize>
     ensures { IfOk result (λ n. n ≤ length room.new) }
 {
     let mut done = 0;
-    loop {
+    while done < room.len() {
         match from.read(&mut room[done..])? {
-            0 => return Ok(done),
+            0 => break,
             n => done += n,
         }
     }
+    Ok(done)
 }
 
 // Writes the page of a sheet over the front of the output; its length.

@@ -45,6 +45,7 @@ pub record Masks (S : List ℕ) : Type 0 where
 pub record Blank (a : Ac4) : Type 0 where
   pub long-support : length a.support ≡ support_words
   pub long_counter : length a.counter.counts ≡ counter_words
+  pub long-copy : length a.copy.counts ≡ counter_words
   pub places : length a.list.places ≡ list_places
   pub no_support : (q : ℕ) → get_or a.support q 0 ≡ 0
   pub no_count : (q : ℕ) → get_or a.counter.counts q 0 ≡ 0

@@ -103,12 +103,15 @@ module _ (P : Problem) where
 
       module _ (k changed : ℕ) (D L : List ℕ) (t : ℕ) (S C : List ℕ) (p : Initializing k changed D L t S C) where
         -- there is a place for each setting, since none enters twice
-        pub room-enough : t + count D ≤ list_places
+        pub room-enough : (length L ≡ list_places) × (t + count D ≤ list_places)
         room-enough =
             let r = p.moved.room in
             let m = count_most D0 ask.small in
             let n = ask.long in
-            omega arith
+            (p.moved.long ∙ ask.places, omega arith)
+
+        pub now-sized : length D ≡ most_fields
+        now-sized = p.moved.sized ∙ ask.long
 
         pub now-small : Small D
         now-small = small_⊆ D0 D p.moved.inside ask.small

@@ -61,7 +61,7 @@ module _ (n : ℕ) (joined forward turned : List ℕ) (wired : Wired n joined fo
       count-asks = ((let f = wired.few in omega arith), small k, wired.few)
 
       pub initialize_drop-asks : Small D × (get_or joined k 0 < 2 ^ most_fields) × (t + count D ≤ list_places)
-      initialize_drop-asks = (small, near-low, room-enough P D0 L0 wired.symmetric few S0 C0 ask k changed D L t S C p)
+      initialize_drop-asks = (small, near-low, (room-enough P D0 L0 wired.symmetric few S0 C0 ask k changed D L t S C p).1)
 
       module _ (R : List ℕ) (r : RecordedArcs (λ i. rows_of forward turned k i) k (get_or joined k 0) D S 0 R) (E : List ℕ)
           (m : CountsMade R k (get_or D k 0) n C 0 E) (none : List ℕ) (u : Uncounted E k D n none) (lost : ℕ) (Q K : List ℕ) (v : ℕ) where

@@ -11,11 +11,11 @@ use Rattle.limits.specs.Engines.{DecodesEngine}
 use Rattle.limits.specs.Refusals.{number_of}
 use Rattle.ledger.specs.Ledger.{first, engine_causes, no_engine}
 
-pub engine-decoded : (k : ℕ) (r : Result Engine Refusal) → DecodesEngine k r → number_of r ≡ first (engine_causes k)
+pub engine_decoded : (k : ℕ) (r : Result Engine Refusal) → DecodesEngine k r → number_of r ≡ first (engine_causes k)
 unfolding no_engine first pick
-engine-decoded k (Ok Sac1) e = ap (λ (n : ℕ). first (engine_causes n)) e
-engine-decoded k (Ok Sac2) e = ap (λ (n : ℕ). first (engine_causes n)) e
-engine-decoded k (Ok Queue) e = ap (λ (n : ℕ). first (engine_causes n)) e
-engine-decoded k (Err u) e =
+engine_decoded k (Ok Sac1) e = ap (λ (n : ℕ). first (engine_causes n)) e
+engine_decoded k (Ok Sac2) e = ap (λ (n : ℕ). first (engine_causes n)) e
+engine_decoded k (Ok Queue) e = ap (λ (n : ℕ). first (engine_causes n)) e
+engine_decoded k (Err u) e =
     let none : no_engine k ≡ true = ⊎_elim (λ q. or_l _ (ltb 3 k) (eq-eqb k 0 q)) (λ q. or_r _ (ltb 3 k) (lt-ltb 3 k q)) e.0 in
     rw (e.1, none)

@@ -45,6 +45,7 @@ pub fn judge_selection(outline: Outline, selected: u32) -> Result<(), Refusal>
 }
 
 // 7: the engine is not 1 to 3.
+#[tactic(auto, using(crate::proofs::Engines::engine_decoded))]
 pub fn judge_engine(engine: u32) -> Result<Engine, Refusal>
     ensures number { number_of result ≡ first (engine_causes engine) }
     ensures decoded { DecodesEngine engine result }
@@ -87,6 +88,7 @@ fn added_again(d: Decisions, k: Change) -> bool
 }
 
 // Whether the decision to withdraw is not in force.
+#[tactic(auto, using(session::specs::View::in_force_of))]
 fn withdrawn_unheld(d: Decisions, k: Change) -> bool
     ensures { result ≡ withdrawn_unheld k (decisions_of d) }
 {

@@ -42,22 +42,22 @@ impl Refusal {
         ensures { result ≡ number self }
     {
         match self {
-            Refusal::EndsInside => 1,
-            Refusal::IllFormed => 2,
-            Refusal::OutOfRange => 3,
-            Refusal::OutOfOrder => 4,
-            Refusal::Surplus => 5,
-            Refusal::TooShort => 6,
-            Refusal::Unknown => 7,
-            Refusal::NoOrder => 9,
-            Refusal::AddedAgain => 10,
-            Refusal::NotInForce => 11,
-            Refusal::NoRoom => 12,
-            Refusal::NothingPast => 13,
-            Refusal::WipedOut => 14,
-            Refusal::Malformed => 15,
-            Refusal::NoSelection => 18,
-            Refusal::Retired => 20,
+            Refusal::EndsInside => ENDS_INSIDE,
+            Refusal::IllFormed => ILL_FORMED,
+            Refusal::OutOfRange => OUT_OF_RANGE,
+            Refusal::OutOfOrder => OUT_OF_ORDER,
+            Refusal::Surplus => SURPLUS,
+            Refusal::TooShort => TOO_SHORT,
+            Refusal::Unknown => UNKNOWN,
+            Refusal::NoOrder => NO_ORDER,
+            Refusal::AddedAgain => ADDED_AGAIN,
+            Refusal::NotInForce => NOT_IN_FORCE,
+            Refusal::NoRoom => NO_ROOM,
+            Refusal::NothingPast => NOTHING_PAST,
+            Refusal::WipedOut => WIPED_OUT,
+            Refusal::Malformed => MALFORMED,
+            Refusal::NoSelection => NO_SELECTION,
+            Refusal::Retired => RETIRED,
         }
     }
 }

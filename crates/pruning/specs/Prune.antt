@@ -155,10 +155,11 @@ module _ (P : Problem) (W : ℕ) (S : List ℕ) where
         all_moved = moved_then l.moved p.moved
 
         -- there is a place for each setting, since none enters twice
-        pub places-enough : t + count D ≤ list_places
-        places-enough = let r = all_moved.room in let m = l.room in omega arith
+        pub places-enough : (length L ≡ list_places) × (t + count D ≤ list_places)
+        places-enough =
+            let r = all_moved.room in let m = l.room in (all_moved.long ∙ l.places, omega arith)
 
-        set-sized : length D ≡ most_fields
+        pub set-sized : length D ≡ most_fields
         set-sized = all_moved.sized ∙ l.long
 
         pub set-small : Small D

@@ -77,7 +77,7 @@ module _ (n : ℕ) (joined forward turned : List ℕ) (wired : Wired n joined fo
   -- what a turn asks
   pub head_asks : (h < list_places) × (get_or L h 0 < list_places) × (get_or L h 0 / most_settings < most_fields)
   head_asks =
-      let y = places-enough P W S D1 L1 t1 C1 s a h changed spent D L t C p in
+      let y = (places-enough P W S D1 L1 t1 C1 s a h changed spent D L t C p).1 in
       let l = field-low in
       let f = wired.few in
       let q = head_is.1 in
@@ -92,7 +92,7 @@ module _ (n : ℕ) (joined forward turned : List ℕ) (wired : Wired n joined fo
     set-small P W S D1 L1 t1 C1 s a h changed spent D L t C p,
     lt_of_le_of_lt (and_le_r (get_or joined j 0) W)
         (fields-small n joined forward turned W wired.few (λ f e. (in_all_fields P f (a.on f e)).1)),
-    places-enough P W S D1 L1 t1 C1 s a h changed spent D L t C p,
+    (places-enough P W S D1 L1 t1 C1 s a h changed spent D L t C p).1,
   )
 
   near-at : (f : ℕ) → bit (bit_and (get_or joined (get_or L h 0 / most_settings) 0) W) f ≡ true

@@ -40,13 +40,19 @@ pub record OnSheet (o : Outline) (x : Decision) (r : Bool) : Type 0 where
   pub is : r ≡ on_sheet o x
   pub low : r ≡ true → Within x
 
-pub on-choice : (o : Outline) (f v : ℕ) (r : Bool) → Found o.full f v r → OnSheet o (Choice f v) r
+pub on-choice : (o : Outline) (f v : ℕ) → on_sheet o (Choice f v) ≡ has o.full f v
 unfolding on_sheet
-on-choice o f v r k = record { is = k.is; low = k.low }
+on-choice o f v = refl
 
-pub on-strike : (o : Outline) (f v : ℕ) (r : Bool) → Found o.full f v r → OnSheet o (Strike f v) r
+pub on-strike : (o : Outline) (f v : ℕ) → on_sheet o (Strike f v) ≡ has o.full f v
 unfolding on_sheet
-on-strike o f v r k = record { is = k.is; low = k.low }
+on-strike o f v = refl
+
+pub found-choice : (o : Outline) (f v : ℕ) (r : Bool) → Found o.full f v r → OnSheet o (Choice f v) r
+found-choice o f v r k = record { is = k.is ∙ sym (on-choice o f v); low = k.low }
+
+pub found-strike : (o : Outline) (f v : ℕ) (r : Bool) → Found o.full f v r → OnSheet o (Strike f v) r
+found-strike o f v r k = record { is = k.is ∙ sym (on-strike o f v); low = k.low }
 
 -- ---- masks on the sheet
 

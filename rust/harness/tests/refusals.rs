@@ -35,8 +35,10 @@ fn definitions_and_code() {
     };
     let numbers = lines("crates/limits/specs/Refusals.antt", |line| line.starts_with("number ") && line.contains(" = "));
     assert_eq!(numbers, given(|refusal| format!("number {refusal:?} = {}", name(refusal))));
+    let constants = lines("crates/limits/src/refusals.rt", |line| line.starts_with("pub const"));
+    assert_eq!(constants, given(|refusal| format!("pub const {}: u32 = {};", name(refusal), refusal.number())));
     let code = lines("crates/limits/src/refusals.rt", |line| line.starts_with("Refusal::"));
-    assert_eq!(code, given(|refusal| format!("Refusal::{refusal:?} => {},", refusal.number())));
+    assert_eq!(code, given(|refusal| format!("Refusal::{refusal:?} => {},", name(refusal))));
 }
 
 #[test]

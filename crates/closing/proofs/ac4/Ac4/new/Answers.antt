@@ -8,6 +8,7 @@ pub returns : goal.returns
 returns c = record {
   long-support = search rules;
   long_counter = search rules;
+  long-copy = search rules;
   places = search rules;
   no_support = get_d_zeros support_words;
   no_count = get_d_zeros counter_words;
