@@ -4,7 +4,7 @@ use Rattle.std.proofs.Math.Path.{refl}
 use Rattle.std.proofs.Common.{sym, ap, ◌∙◌, arith, eqb-true}
 use Rattle.std.specs.Int.Bits.{bit_or, bit_xor, or_zero_l}
 use Rattle.std.specs.Result.{is_ok}
-use Rattle.limits.specs.Limits.{most_fields, list_places}
+use Rattle.limits.specs.Limits.{most_fields, counter_words, list_places}
 use Rattle.limits.specs.Refusals.{is_wiped}
 use Rattle.masks.specs.Bits.{bit, Within}
 use Rattle.masks.proofs.Words.{bit-one}
@@ -44,12 +44,13 @@ module _ (t : Tables) (S : List ℕ) (a : LiveAsks t S) (c : Ac4) (ct : Counted 
 
   -- what `move_out` asks of some settings of f
   off-asks : (off : ℕ) → Within off (get_or S f 0)
-      → Small S × (f < most_fields) × Within off (get_or S f 0) × (0 + count S ≤ list_places)
+      → (Small S × (f < most_fields) × Within off (get_or S f 0) × (0 + count S ≤ list_places))
+      × (length S ≡ most_fields) × (length c.list.places ≡ list_places)
   off-asks off w =
       let l = place_bound t S a f v e in
       let m = count_most S a.masks.small in
       let k = a.masks.long in
-      (a.masks.small, l.1, w, omega arith)
+      ((a.masks.small, l.1, w, omega arith), a.masks.long, ct.places)
 
   -- the field is one of the sheet
   pub own_below : FieldsBelow t.network.now.fields (2 ^ f)
@@ -60,8 +61,8 @@ module _ (t : Tables) (S : List ℕ) (a : LiveAsks t S) (c : Ac4) (ct : Counted 
   abbrev cut_off : ℕ
   cut_off = bit_xor (get_or S f 0) (get_or (cut S f v) f 0)
 
-  pub cut-asks : Small S × (f < most_fields) × Within (bit_xor (get_or S f 0) (get_or (cut S f v) f 0)) (get_or S f 0)
-      × (0 + count S ≤ list_places)
+  pub cut-asks : (Small S × (f < most_fields) × Within (bit_xor (get_or S f 0) (get_or (cut S f v) f 0)) (get_or S f 0)
+      × (0 + count S ≤ list_places)) × (length S ≡ most_fields) × (length c.list.places ≡ list_places)
   cut-asks = off-asks cut_off (off-within t S a (cut S f v) f (length_cut S f v) (cut_⊆ S f v) (cut-same t S a f v))
 
   module _ (R K : List ℕ) (w : ℕ) (m : Moved S c.list.places 0 R K w)
@@ -83,10 +84,15 @@ module _ (t : Tables) (S : List ℕ) (a : LiveAsks t S) (c : Ac4) (ct : Counted 
       module _ (wiped : Bool) (changed spent : ℕ) (D L : List ℕ) (u : ℕ) (C : List ℕ)
           (p : Pruned P W c.support R K w c.copy.counts wiped changed spent D L u C) where
         -- what `recover` asks: no count was lowered before
-        pub cut-recover-asks : {all : ℕ} → all ≡ bit_or c.copy.spent spent → (all < 2 ^ most_fields) × OnlySpent all c.counter.counts C
+        pub cut-recover-asks : {all : ℕ} → all ≡ bit_or c.copy.spent spent
+            → ((all < 2 ^ most_fields) × OnlySpent all c.counter.counts C)
+            × (length c.counter.counts ≡ counter_words) × (length C ≡ counter_words)
         cut-recover-asks x =
-            rw (none_before x ct.spent-copy)
-            (fields-small t spent a.wired.few (λ g b. fields g (p.spends g b)), rw ct.copied at p.frame)
+            rw (none_before x ct.spent-copy) (
+              (fields-small t spent a.wired.few (λ g b. fields g (p.spends g b)), rw ct.copied at p.frame),
+              ct.counts.sized,
+              p.long,
+            )
 
         pub test-passes : Tested P W S f v (not wiped) D
         test-passes = tested P W S f v wiped changed D (rw is_cut at p.closes)
@@ -108,8 +114,8 @@ module _ (t : Tables) (S : List ℕ) (a : LiveAsks t S) (c : Ac4) (ct : Counted 
 
   -- ---- the removal: the setting itself goes
 
-  pub lose-asks : Small S × (f < most_fields) × Within (bit_xor (get_or S f 0) (get_or (lose S f v) f 0)) (get_or S f 0)
-      × (0 + count S ≤ list_places)
+  pub lose-asks : (Small S × (f < most_fields) × Within (bit_xor (get_or S f 0) (get_or (lose S f v) f 0)) (get_or S f 0)
+      × (0 + count S ≤ list_places)) × (length S ≡ most_fields) × (length c.list.places ≡ list_places)
   lose-asks = off-asks _ (off-within t S a (lose S f v) f (length-lose S f v) (lose_⊆ S f v) (lose-same t S a f v))
 
   module _ (left : empty (lose S f v) f ≡ false) (R K : List ℕ) (w : ℕ) (m : Moved S c.list.places 0 R K w)
@@ -130,10 +136,15 @@ module _ (t : Tables) (S : List ℕ) (a : LiveAsks t S) (c : Ac4) (ct : Counted 
 
     module _ (wiped : Bool) (changed spent : ℕ) (D L : List ℕ) (u : ℕ) (C : List ℕ)
         (p : Pruned P (all_fields (problem t)) c.support R K w c.counter.counts wiped changed spent D L u C) where
-      pub lose-recover-asks : {all : ℕ} → all ≡ bit_or c.counter.spent spent → (all < 2 ^ most_fields) × OnlySpent all C c.copy.counts
+      pub lose-recover-asks : {all : ℕ} → all ≡ bit_or c.counter.spent spent
+          → ((all < 2 ^ most_fields) × OnlySpent all C c.copy.counts) × (length C ≡ counter_words) × (length c.copy.counts ≡ counter_words)
       lose-recover-asks x = rw (none_before x ct.spent) (
-        fields-small t spent a.wired.few p.spends,
-        record { same = λ j b q l h. ap (λ (Z : List ℕ). get_or Z q 0) ct.copied ∙ sym (p.frame.same j b q l h) },
+        (
+          fields-small t spent a.wired.few p.spends,
+          record { same = λ j b q l h. ap (λ (Z : List ℕ). get_or Z q 0) ct.copied ∙ sym (p.frame.same j b q l h) },
+        ),
+        p.long,
+        ap length ct.copied ∙ ct.counts.sized,
       )
 
       pub remove-closes : Removed P S f v wiped (bit_or (2 ^ f) changed) D

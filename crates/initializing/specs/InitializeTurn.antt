@@ -11,7 +11,7 @@ use Rattle.removal_list.specs.Count.{Small}
 use Rattle.consistency.specs.Problem.{Problem, in_all_fields}
 use Rattle.network.specs.Tables.{rows_of, rule_problem, Wired}
 use Rattle.pruning.specs.Drop.{Dropped}
-use Rattle.initializing.specs.Initialize.{Recorded, Initializing, Initialized, InitializeAsks, room-enough, now-small}
+use Rattle.initializing.specs.Initialize.{Recorded, Initializing, Initialized, InitializeAsks, room-enough, now-sized, now-small}
 use Rattle.initializing.specs.Initialize.{initializing_start, initializing_end, initializing_none, initializing_turn}
 use Rattle.initializing.specs.Record.{RecordedArcs, recorded}
 use Rattle.initializing.specs.Count.{CountsMade, counted-towards}
@@ -47,21 +47,27 @@ module _ (n : ℕ) (joined forward turned : List ℕ) (wired : Wired n joined fo
       small : Small D
       small = now-small P D0 L0 wired.symmetric few S0 C0 ask k changed D L t S C p
 
-      pub record-asks : (k < most_fields) × (get_or joined k 0 < 2 ^ most_fields) × (bit (get_or joined k 0) k ≡ false)
-          × (table_words ≤ length forward) × (table_words ≤ length turned)
+      pub record-asks : ((k < most_fields) × (get_or joined k 0 < 2 ^ most_fields) × (bit (get_or joined k 0) k ≡ false)
+          × (table_words ≤ length forward) × (table_words ≤ length turned)) × (length S ≡ support_words)
       record-asks = (
-        (let f = wired.few in omega arith),
-        near-low,
-        not_so (bit near k) (λ e. (wired.ends k k e).2 refl),
-        wired.forwards,
-        wired.turneds,
+        (
+          (let f = wired.few in omega arith),
+          near-low,
+          not_so (bit near k) (λ e. (wired.ends k k e).2 refl),
+          wired.forwards,
+          wired.turneds,
+        ),
+        p.long-S,
       )
 
-      pub count-asks : (k < most_fields) × (get_or D k 0 < 2 ^ most_settings) × (n ≤ most_fields)
-      count-asks = ((let f = wired.few in omega arith), small k, wired.few)
+      pub count-asks : ((k < most_fields) × (get_or D k 0 < 2 ^ most_settings) × (n ≤ most_fields)) × (length C ≡ counter_words)
+      count-asks = (((let f = wired.few in omega arith), small k, wired.few), p.long-C)
 
-      pub initialize_drop-asks : Small D × (get_or joined k 0 < 2 ^ most_fields) × (t + count D ≤ list_places)
-      initialize_drop-asks = (small, near-low, (room-enough P D0 L0 wired.symmetric few S0 C0 ask k changed D L t S C p).1)
+      pub initialize_drop-asks : (Small D × (get_or joined k 0 < 2 ^ most_fields) × (t + count D ≤ list_places))
+          × (length D ≡ most_fields) × (length L ≡ list_places)
+      initialize_drop-asks =
+          let r = room-enough P D0 L0 wired.symmetric few S0 C0 ask k changed D L t S C p in
+          ((small, near-low, r.1), now-sized P D0 L0 wired.symmetric few S0 C0 ask k changed D L t S C p, r.0)
 
       module _ (R : List ℕ) (r : RecordedArcs (λ i. rows_of forward turned k i) k (get_or joined k 0) D S 0 R) (E : List ℕ)
           (m : CountsMade R k (get_or D k 0) n C 0 E) (none : List ℕ) (u : Uncounted E k D n none) (lost : ℕ) (Q K : List ℕ) (v : ℕ) where

@@ -216,12 +216,17 @@ module _ (near : ℕ) (none D L : List ℕ) (t : ℕ) where
 
     -- what `move_out` asks
     pub move_asks : Small D → near < 2 ^ most_fields → t + count D ≤ list_places
-        → Small R × (i < most_fields) × Within gone (get_or R i 0) × (u + count R ≤ list_places)
+        → (Small R × (i < most_fields) × Within gone (get_or R i 0) × (u + count R ≤ list_places))
+        × (length D ≡ most_fields → length R ≡ most_fields) × (length L ≡ list_places → length K ≡ list_places)
     move_asks s l c = (
-      small_⊆ D R p.moved.inside s,
-      bit_bound most_fields near i l (p.lefts i b),
-      gone-within,
-      (let r = p.moved.room in omega arith),
+      (
+        small_⊆ D R p.moved.inside s,
+        bit_bound most_fields near i l (p.lefts i b),
+        gone-within,
+        (let r = p.moved.room in omega arith),
+      ),
+      (λ n. p.moved.sized ∙ n),
+      (λ h. p.moved.long ∙ h),
     )
 
     module _ (Q M : List ℕ) (w : ℕ) (m : Moved R K u Q M w) (e : Q ≡ without R i gone) (d : gone ≡ 0 → ⊥) where

@@ -1,5 +1,5 @@
 -- A turn of pruneAC over the tables: the setting at the head of the list, by its number. Assumes nothing.
-use Rattle.std.specs.Prelude.{◌≡◌, Bool, true, false, List, ℕ, ◌+◌, ◌/◌, ◌^◌, ◌≤◌, ◌<◌}
+use Rattle.std.specs.Prelude.{◌≡◌, Bool, true, false, List, ℕ, ◌+◌, ◌/◌, ◌^◌, ◌≤◌, ◌<◌, length}
 use Rattle.std.proofs.Math.Path.{sym, ap}
 use Rattle.std.proofs.Common.{◌∙◌, lt_of_le_of_lt}
 use native.Mathlib.Omega.{arith}
@@ -18,7 +18,7 @@ use Rattle.consistency.specs.Problem.{Problem, In, in_all_fields}
 use Rattle.network.specs.Tables.{rule_problem, Wired}
 use Rattle.pruning.specs.Supports.{supports}
 use Rattle.pruning.specs.Drop.{meets, meets-not, Dropped, dropped-none}
-use Rattle.pruning.specs.Prune.{PruneAsks, Pruned, Pruning, places-enough, set-small, head_setting}
+use Rattle.pruning.specs.Prune.{PruneAsks, Pruned, Pruning, places-enough, set-sized, set-small, head_setting}
 use Rattle.pruning.specs.Prune.{turn-none, turn-next}
 use Rattle.pruning.specs.SupportSet.{SetOf, set-has}
 use Rattle.pruning.specs.Fields.{fields-small}
@@ -87,13 +87,19 @@ module _ (n : ℕ) (joined forward turned : List ℕ) (wired : Wired n joined fo
   abbrev near : ℕ
   near = bit_and (get_or joined j 0) W
 
-  pub drop-asks : Small D × (bit_and (get_or joined (get_or L h 0 / most_settings) 0) W < 2 ^ most_fields) × (t + count D ≤ list_places)
-  drop-asks = (
-    set-small P W S D1 L1 t1 C1 s a h changed spent D L t C p,
-    lt_of_le_of_lt (and_le_r (get_or joined j 0) W)
-        (fields-small n joined forward turned W wired.few (λ f e. (in_all_fields P f (a.on f e)).1)),
-    (places-enough P W S D1 L1 t1 C1 s a h changed spent D L t C p).1,
-  )
+  pub drop-asks : (Small D × (bit_and (get_or joined (get_or L h 0 / most_settings) 0) W < 2 ^ most_fields) × (t + count D ≤ list_places))
+      × (length D ≡ most_fields) × (length L ≡ list_places)
+  drop-asks =
+      let y = places-enough P W S D1 L1 t1 C1 s a h changed spent D L t C p in (
+        (
+          set-small P W S D1 L1 t1 C1 s a h changed spent D L t C p,
+          lt_of_le_of_lt (and_le_r (get_or joined j 0) W)
+              (fields-small n joined forward turned W wired.few (λ f e. (in_all_fields P f (a.on f e)).1)),
+          y.1,
+        ),
+        set-sized P W S D1 L1 t1 C1 s a h changed spent D L t C p,
+        y.0,
+      )
 
   near-at : (f : ℕ) → bit (bit_and (get_or joined (get_or L h 0 / most_settings) 0) W) f ≡ true
       → In P W f × (P.joined f (get_or L h 0 / most_settings) ≡ true)

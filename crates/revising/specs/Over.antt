@@ -101,8 +101,9 @@ module _ (tables : Tables) (wired : WiredTables tables) (x : Tripled tables) (W 
     made = dropped-revised n T x t l wired.few joined forward turned W D near none r
         ∙ ap (λ (R : Triple). revised P W R D) (sym (is-triple t l))
 
-    pub drop-asks : Small D × (near < 2 ^ most_fields) × (tail + count D ≤ list_places)
-    drop-asks = (e.small, lt_of_le_of_lt (within-le near W near-inside) small-fields, e.room)
+    pub drop-asks : (Small D × (near < 2 ^ most_fields) × (tail + count D ≤ list_places))
+        × (length D ≡ most_fields) × (length L ≡ list_places)
+    drop-asks = ((e.small, lt_of_le_of_lt (within-le near W near-inside) small-fields, e.room), e.sized, e.places)
 
     module _ (lost : ℕ) (Q K : List ℕ) (u : ℕ) where
       pub turn-none : Dropped near none D L tail true lost Q K u → Turned (problem tables)

@@ -56,7 +56,7 @@ bounds-left-f c =
 pub move_out-requires : goal.move_out-requires
 move_out-requires c =
     let s = c.requires.live_asks in
-    rw c.lose-left.ensures (lose-asks _ _ s.0 _ c.requires.counted _ _ s.1)
+    rw c.lose-left.ensures (lose-asks _ _ s.0 _ c.requires.counted _ _ s.1).0
 
 pub one_bit-own-requires : goal.one_bit-own-requires
 one_bit-own-requires c =
@@ -108,7 +108,7 @@ recover-requires c =
     let m = rw c.lose-left.ensures at c.move_out.ensures in
     let left = rw c.lose-left.ensures at (sym c.is_empty.ensures ∙ c.if-is_empty.false) in
     let p = rw c.first_positions-all.ensures at c.in_ok-more.ensures in
-    lose-recover-asks _ _ s.0 _ q _ _ s.1 left _ _ _ m.0 m.1 _ _ _ _ _ _ _ p.2 p.1
+    (lose-recover-asks _ _ s.0 _ q _ _ s.1 left _ _ _ m.0 m.1 _ _ _ _ _ _ _ p.2 p.1).0
 
 pub returns-clause-removed : goal.returns-clause-removed
 unfolding all_fields problem_of

@@ -34,7 +34,7 @@ bounds-cut-f c =
 pub move_out-requires : goal.move_out-requires
 move_out-requires c =
     let s = c.requires.live_asks in
-    rw c.cut-cut.ensures (cut-asks _ _ s.0 _ c.requires.counted _ _ s.1)
+    rw c.cut-cut.ensures (cut-asks _ _ s.0 _ c.requires.counted _ _ s.1).0
 
 pub one_bit-requires : goal.one_bit-requires
 one_bit-requires c =
@@ -61,7 +61,7 @@ recover-requires c =
     let q = c.requires.counted in
     let m = rw c.cut-cut.ensures at c.move_out.ensures in
     let p = c.narrow.ensures in
-    cut-recover-asks _ _ s.0 _ q _ _ s.1 _ _ _ m.0 m.1 _ s.2 s.3 _ _ _ _ _ _ _ p.2 p.1
+    (cut-recover-asks _ _ s.0 _ q _ _ s.1 _ _ _ m.0 m.1 _ s.2 s.3 _ _ _ _ _ _ _ p.2 p.1).0
 
 pub returns-clause-tested : goal.returns-clause-tested
 returns-clause-tested c =

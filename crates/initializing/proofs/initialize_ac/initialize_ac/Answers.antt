@@ -11,33 +11,33 @@ loop-j-init c = let p = c.requires in (initialize_start _ _ _ _ p.0 _ _ _ _ p.1,
 pub bounds-tables-j : goal.bounds-tables-j
 bounds-tables-j c =
     let p = c.requires in
-    (record-asks _ _ _ _ p.0 _ _ _ _ p.1 _ _ _ _ _ _ _ c.loop-j.invariant.0 c.loop-j-test.true).0
+    (record-asks _ _ _ _ p.0 _ _ _ _ p.1 _ _ _ _ _ _ _ c.loop-j.invariant.0 c.loop-j-test.true).0.0
 
 pub record-requires : goal.record-requires
 record-requires c =
     let p = c.requires in
-    record-asks _ _ _ _ p.0 _ _ _ _ p.1 _ _ _ _ _ _ _ c.loop-j.invariant.0 c.loop-j-test.true
+    (record-asks _ _ _ _ p.0 _ _ _ _ p.1 _ _ _ _ _ _ _ c.loop-j.invariant.0 c.loop-j-test.true).0
 
 pub bounds-d-j : goal.bounds-d-j
 bounds-d-j c =
     let p = c.requires in
-    (record-asks _ _ _ _ p.0 _ _ _ _ p.1 _ _ _ _ _ _ _ c.loop-j.invariant.0 c.loop-j-test.true).0
+    (record-asks _ _ _ _ p.0 _ _ _ _ p.1 _ _ _ _ _ _ _ c.loop-j.invariant.0 c.loop-j-test.true).0.0
 
 pub count_towards-requires : goal.count_towards-requires
 count_towards-requires c =
     let p = c.requires in
-    count-asks _ _ _ _ p.0 _ _ _ _ p.1 _ _ _ _ _ _ _ c.loop-j.invariant.0 c.loop-j-test.true
+    (count-asks _ _ _ _ p.0 _ _ _ _ p.1 _ _ _ _ _ _ _ c.loop-j.invariant.0 c.loop-j-test.true).0
 
 pub uncounted-none-requires : goal.uncounted-none-requires
 uncounted-none-requires c =
     let p = c.requires in
-    let a = count-asks _ _ _ _ p.0 _ _ _ _ p.1 _ _ _ _ _ _ _ c.loop-j.invariant.0 c.loop-j-test.true in
+    let a = (count-asks _ _ _ _ p.0 _ _ _ _ p.1 _ _ _ _ _ _ _ c.loop-j.invariant.0 c.loop-j-test.true).0 in
     (a.0, a.2)
 
 pub drop-requires : goal.drop-requires
 drop-requires c =
     let p = c.requires in
-    initialize_drop-asks _ _ _ _ p.0 _ _ _ _ p.1 _ _ _ _ _ _ _ c.loop-j.invariant.0 c.loop-j-test.true
+    (initialize_drop-asks _ _ _ _ p.0 _ _ _ _ p.1 _ _ _ _ _ _ _ c.loop-j.invariant.0 c.loop-j-test.true).0
 
 pub returns-in_err-changed : goal.returns-in_err-changed
 returns-in_err-changed c =

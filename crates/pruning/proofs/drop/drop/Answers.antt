@@ -19,7 +19,7 @@ bounds-none-i c =
 pub move_out-requires : goal.move_out-requires
 move_out-requires c =
     let p = c.requires in
-    move_asks _ _ _ _ _ _ _ _ _ _ _ _ c.loop-i.invariant c.in-Some.ensures.steps.lowest.set refl p.0 p.1 p.2
+    (move_asks _ _ _ _ _ _ _ _ _ _ _ _ c.loop-i.invariant c.in-Some.ensures.steps.lowest.set refl p.0 p.1 p.2).0
 
 pub returns-then-d-i-eq0 : goal.returns-then-d-i-eq0
 returns-then-d-i-eq0 c =

@@ -29,7 +29,7 @@ bounds-tables-j c =
 pub drop-requires : goal.drop-requires
 drop-requires c =
     let p = c.requires in
-    drop-asks _ _ _ _ p.0 _ _ _ _ _ _ _ p.1 _ _ _ _ _ _ _ c.loop-head.invariant.2 c.loop-head-test.true
+    (drop-asks _ _ _ _ p.0 _ _ _ _ _ _ _ p.1 _ _ _ _ _ _ _ c.loop-head.invariant.2 c.loop-head-test.true).0
 
 pub returns-in_err-changed : goal.returns-in_err-changed
 returns-in_err-changed c =

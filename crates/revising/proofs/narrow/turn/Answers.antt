@@ -13,7 +13,7 @@ revise-near-requires c =
 pub drop-requires : goal.drop-requires
 drop-requires c =
     let p = c.requires in
-    drop-asks c.args.tables.now p.0 p.1 _ p.3 _ _ p.2 _ _ _ _ p.4 _ _ c.revise-near.ensures
+    (drop-asks c.args.tables.now p.0 p.1 _ p.3 _ _ p.2 _ _ _ _ p.4 _ _ c.revise-near.ensures).0
 
 pub returns-in_err-lost : goal.returns-in_err-lost
 returns-in_err-lost c =
